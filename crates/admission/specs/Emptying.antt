@@ -1,0 +1,55 @@
+-- The emptying rule of document 01 as one statement about every list of events.
+use Prim.Native.Nat.{ℕ, _+_, _≤_}
+use mathlib.Core.List.{List, [], _∷_}
+use mathlib.Core.Path.{_≡_}
+use mathlib.Core.Logic.{_≢_, _↔_}
+use Rattle.model.specs.Numbers.{InRange, Each}
+use Rattle.model.specs.Plan.{capacityOf}
+use Rattle.model.specs.Jobs.{unitsHeld}
+use Rattle.model.specs.Upstream.{check}
+use Rattle.model.specs.declared.Plan.{Plan}
+use Rattle.model.specs.declared.Check.the-variants.{Meets}
+use Rattle.admission.specs.Table.{tableOf, emptyTable}
+use Rattle.admission.specs.Events.{answer}
+use Rattle.admission.specs.Drain.{stagesBefore}
+use Rattle.admission.specs.Ledger.{Ledger, emptyLedger}
+use Rattle.admission.specs.Run.{State, run, answers, admittedCount}
+use Rattle.admission.specs.declared.Event.{Event}
+use Rattle.admission.specs.declared.Event.the-variants.{Load, Advance, Unload}
+use Rattle.admission.specs.declared.Table.{Table}
+use Rattle.admission.specs.declared.Answer.the-variants.{Admitted}
+
+abbrev pub IsMove : Event → Type 0
+IsMove (Load n t) = ⊥
+IsMove (Advance n) = Unit {0}
+IsMove (Unload n) = Unit {0}
+
+-- some advance or unload is admitted
+pub record SomeMove (p : Plan) (t : Table) : Type 0 where
+  pub event : Event
+  pub move : IsMove event
+  pub admitted : answer p t event ≡ Admitted
+
+-- the empty table and the empty ledger
+abbrev pub start : State
+start = record { table = emptyTable; ledger = emptyLedger }
+
+-- of the state between the lists and the state at the end, with the moves admitted on the way
+pub record Rule (p : Plan) (between end : State) (moves : ℕ) : Type 0 where
+  -- a: the table holds the ledger's jobs in its order, and zeros beyond
+  pub same : end .table ≡ tableOf (end .ledger .jobs)
+  -- b: units taken are units given back plus what the present stages demand, within capacity
+  pub units : (r : ℕ) → InRange r (p .resources) → end .ledger .taken r ≡ end .ledger .given r + unitsHeld p r (end .ledger .jobs)
+  pub capacity : (r : ℕ) → InRange r (p .resources) → unitsHeld p r (end .ledger .jobs) ≤ capacityOf p r
+  -- c: some move is admitted exactly when a job remains
+  pub movable : SomeMove p (end .table) ↔ (end .ledger .jobs ≢ [])
+  -- d: each admitted move is one stage fewer before the jobs
+  pub count : moves + stagesBefore p (end .ledger .jobs) ≡ stagesBefore p (between .ledger .jobs)
+  -- e: where none is admitted the cell is empty, after one move for each stage
+  pub emptied : (¬ SomeMove p (end .table)) → (end .table ≡ emptyTable) × (moves ≡ stagesBefore p (between .ledger .jobs))
+
+-- demand 3: a plan that the check passes, any list of events from the start, any list of moves from there
+abbrev pub EmptyingRule : Type 0
+EmptyingRule =
+    (p : Plan) → check p ≡ Meets → (events moves : List Event) → Each IsMove moves
+    → Rule p (run p start events) (run p (run p start events) moves) (admittedCount (answers p (run p start events .table) moves))

@@ -1,0 +1,168 @@
+-- The events: what the model allows of them, and what is answered, question by question in document 01's order.
+use Prim.Native.Nat.{ℕ, _+_, _≤_, _<_}
+use mathlib.Core.Bool.{Bool, true, false, not, cond}
+use mathlib.Core.List.{List, [], _∷_, _++_}
+use mathlib.Core.Path.{_≡_}
+use lib.ListN.{length}
+use lib.Dec.{ltb, eqb}
+use Rattle.model.specs.Limits.{maxNumber, maxJobs}
+use Rattle.model.specs.Numbers.{InRange, inRange, Lowest}
+use Rattle.model.specs.Questions.{Question, Condition, ask, asks, answerOf}
+use Rattle.model.specs.Plan.{lengthOf, capacityOf, boundOf}
+use Rattle.model.specs.Jobs.{unitsHeld, rowSum, KeepsCapacities, KeepsRows, Active, isActive, jobOf, advancedJob, loaded, advanced, unloaded, exceeded, broken}
+use Rattle.model.specs.Soundness.{Sound, sound}
+use Rattle.model.specs.declared.Plan.{Plan}
+use Rattle.model.specs.declared.Job.{Job}
+use Rattle.admission.specs.Table.{jobsOf, tableOf, Agrees, agrees}
+use Rattle.admission.specs.declared.Table.{Table}
+use Rattle.admission.specs.declared.Event.{Event}
+use Rattle.admission.specs.declared.Event.the-variants.{Load, Advance, Unload}
+use Rattle.admission.specs.declared.Answer.{Answer}
+use Rattle.admission.specs.declared.Answer.the-variants.{Admitted, UnsoundPlan, Disagreement, BadNumber, WrongActivity, UnknownType, Full, WrongStage, OverCapacity, RowBroken}
+use Rattle.admission.specs.declared.Outcome.{Outcome}
+
+-- a job has a next stage, and a job is at its last stage
+abbrev pub HasNext : Plan → Job → Type 0
+HasNext p j = j .stage < lengthOf p (j .kind)
+
+abbrev pub IsLast : Plan → Job → Type 0
+IsLast p j = j .stage ≡ lengthOf p (j .kind)
+
+-- the jobs that the model names after an event: a load comes last at stage 1; an advance swaps the demands of two
+-- stages in one act (Condition 3 of source document 003), so nothing is judged in between; an unload closes the gap
+abbrev pub Named : Plan → List Job → Event → List Job → Type 0
+Named p js (Load n t) next = next ≡ loaded n t js
+Named p js (Advance n) next = (a : Active n js) × HasNext p (a .job) × (next ≡ a .before ++ advancedJob (a .job) ∷ a .after)
+Named p js (Unload n) next = (a : Active n js) × IsLast p (a .job) × (next ≡ a .before ++ a .after)
+
+-- the model and the plan's inequalities allow the event: what it names keeps every capacity and every row (Equation 1)
+pub record Allowed (p : Plan) (js : List Job) (e : Event) : Type 0 where
+  pub next : List Job
+  pub named : Named p js e next
+  pub capacities : KeepsCapacities p next
+  pub rows : KeepsRows p next
+
+-- the event names its job and type rightly and, to load, finds fewer than 64 active
+abbrev pub WellNamed : Plan → List Job → Event → Type 0
+WellNamed p js (Load n t) = InRange n maxNumber × (¬ Active n js) × InRange t (p .types) × (length js < maxJobs)
+WellNamed p js (Advance n) = Active n js
+WellNamed p js (Unload n) = Active n js
+
+-- the jobs after an event that is admitted
+abbrev pub after : List Job → Event → List Job
+after js (Load n t) = loaded n t js
+after js (Advance n) = advanced n js
+after js (Unload n) = unloaded n js
+
+-- the event questions as they are worded
+abbrev pub keptConditions : Plan → List Job → List (Condition Answer)
+keptConditions p next =
+    record {
+      holds = KeepsCapacities p next;
+      refusal = λ a. (r : ℕ) × (a ≡ OverCapacity r) × Lowest (p .resources) (λ (i : ℕ). unitsHeld p i next ≤ capacityOf p i) r;
+    }
+    ∷ record {
+      holds = KeepsRows p next;
+      refusal = λ a. (w : ℕ) × (a ≡ RowBroken w) × Lowest (p .rows) (λ (i : ℕ). rowSum p i next ≤ boundOf p i) w;
+    }
+    ∷ []
+
+abbrev pub ownConditions : Plan → List Job → Event → List (Condition Answer)
+ownConditions p js (Load n t) =
+    asks (InRange n maxNumber) BadNumber
+    ∷ asks (¬ Active n js) WrongActivity
+    ∷ asks (InRange t (p .types)) UnknownType
+    ∷ asks (length js < maxJobs) Full
+    ∷ keptConditions p (after js (Load n t))
+ownConditions p js (Advance n) =
+    asks (InRange n maxNumber) BadNumber
+    ∷ asks (Active n js) WrongActivity
+    ∷ asks (HasNext p (jobOf n js)) WrongStage
+    ∷ keptConditions p (after js (Advance n))
+ownConditions p js (Unload n) =
+    asks (InRange n maxNumber) BadNumber
+    ∷ asks (Active n js) WrongActivity
+    ∷ asks (IsLast p (jobOf n js)) WrongStage
+    ∷ keptConditions p (after js (Unload n))
+
+abbrev pub eventConditions : Plan → Table → Event → List (Condition Answer)
+eventConditions p t e = asks (Sound p) UnsoundPlan ∷ asks (Agrees p t) Disagreement ∷ ownConditions p (jobsOf t) e
+
+-- the same, computed
+abbrev pub keptQuestions : Plan → List Job → List (Question Answer)
+keptQuestions p next = ask (eqb (exceeded p next) 0) (OverCapacity (exceeded p next)) ∷ ask (eqb (broken p next) 0) (RowBroken (broken p next)) ∷ []
+
+abbrev pub hasNext : Plan → Job → Bool
+hasNext p j = ltb (j .stage) (lengthOf p (j .kind))
+
+abbrev pub isLast : Plan → Job → Bool
+isLast p j = eqb (j .stage) (lengthOf p (j .kind))
+
+abbrev pub ownQuestions : Plan → List Job → Event → List (Question Answer)
+ownQuestions p js (Load n t) =
+    ask (inRange n maxNumber) BadNumber
+    ∷ ask (not (isActive n js)) WrongActivity
+    ∷ ask (inRange t (p .types)) UnknownType
+    ∷ ask (ltb (length js) maxJobs) Full
+    ∷ keptQuestions p (after js (Load n t))
+ownQuestions p js (Advance n) =
+    ask (inRange n maxNumber) BadNumber
+    ∷ ask (isActive n js) WrongActivity
+    ∷ ask (hasNext p (jobOf n js)) WrongStage
+    ∷ keptQuestions p (after js (Advance n))
+ownQuestions p js (Unload n) =
+    ask (inRange n maxNumber) BadNumber
+    ∷ ask (isActive n js) WrongActivity
+    ∷ ask (isLast p (jobOf n js)) WrongStage
+    ∷ keptQuestions p (after js (Unload n))
+
+abbrev pub eventQuestions : Plan → Table → Event → List (Question Answer)
+eventQuestions p t e = ask (sound p) UnsoundPlan ∷ ask (agrees p t) Disagreement ∷ ownQuestions p (jobsOf t) e
+
+unfoldable pub answer : Plan → Table → Event → Answer
+answer p t e = answerOf Admitted (eventQuestions p t e)
+
+-- admitted (document 01's term) is answered 0
+abbrev pub isAdmitted : Answer → Bool
+isAdmitted Admitted = true
+isAdmitted UnsoundPlan = false
+isAdmitted Disagreement = false
+isAdmitted BadNumber = false
+isAdmitted WrongActivity = false
+isAdmitted UnknownType = false
+isAdmitted Full = false
+isAdmitted WrongStage = false
+isAdmitted (OverCapacity r) = false
+isAdmitted (RowBroken w) = false
+
+-- the table after an event: a refusal hands back the same
+unfoldable pub tableAfter : Plan → Table → Event → Table
+tableAfter p t e = cond (isAdmitted (answer p t e)) (tableOf (after (jobsOf t) e)) t
+
+abbrev pub outcome : Plan → Table → Event → Outcome
+outcome p t e = record { answer = answer p t e; table = tableAfter p t e }
+
+-- the paper's number and place of each answer
+abbrev pub answerNumber : Answer → ℕ
+answerNumber Admitted = 0
+answerNumber UnsoundPlan = 11
+answerNumber Disagreement = 12
+answerNumber BadNumber = 13
+answerNumber WrongActivity = 14
+answerNumber UnknownType = 15
+answerNumber Full = 16
+answerNumber WrongStage = 17
+answerNumber (OverCapacity r) = 18
+answerNumber (RowBroken w) = 19
+
+abbrev pub answerPlace : Answer → ℕ
+answerPlace Admitted = 0
+answerPlace UnsoundPlan = 0
+answerPlace Disagreement = 0
+answerPlace BadNumber = 0
+answerPlace WrongActivity = 0
+answerPlace UnknownType = 0
+answerPlace Full = 0
+answerPlace WrongStage = 0
+answerPlace (OverCapacity r) = r
+answerPlace (RowBroken w) = w

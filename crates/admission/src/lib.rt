@@ -1,0 +1,51 @@
+// The table of active jobs and the answers of the events and the drain, as values.
+use model::Job;
+
+// The active jobs in the order they were loaded; zeros beyond `count`.
+pub struct Table {
+    pub count: usize,
+    pub jobs: [Job; 64],
+}
+
+// What may happen to a job. Any number may stand in an event.
+pub enum Event {
+    Load { job: u32, kind: u32 },
+    Advance(u32),
+    Unload(u32),
+}
+
+// What an event is answered; the numbers and places are `answerNumber` and `answerPlace` of specs/Events.
+pub enum Answer {
+    Admitted,
+    UnsoundPlan,
+    Disagreement,
+    BadNumber,
+    WrongActivity,
+    UnknownType,
+    Full,
+    WrongStage,
+    OverCapacity(u32),
+    RowBroken(u32),
+}
+
+// The answer to an event with the table afterwards.
+pub struct Outcome {
+    pub answer: Answer,
+    pub table: Table,
+}
+
+// How a drain ends; the numbers are `endNumber` of specs/Drain.
+pub enum End {
+    Emptied,
+    UnsoundPlan,
+    Disagreement,
+    OutOfBudget,
+    NoMove,
+}
+
+// The end of a drain with the moves made and the table afterwards.
+pub struct Drained {
+    pub end: End,
+    pub moves: u32,
+    pub table: Table,
+}

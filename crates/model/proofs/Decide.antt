@@ -1,0 +1,215 @@
+-- A test decides a condition: where it passes the condition holds, and where it fails the condition does not. Tests that
+-- are put together as conditions are decide what the conditions say together, so each computed question follows its
+-- worded one part by part.
+use Prim.Native.Nat.{ℕ, zero, suc, _+_, _-_, _≤_, _<_}
+use native.Mathlib.Omega.{arith}
+use native.Mathlib.Nat.{not-suc-le-zero, le-of-suc-le-suc}
+use mathlib.Core.Bool.{Bool, true, false, not, cond, _&&_, _||_, true≢false, false≢true}
+use mathlib.Core.List.{List, [], _∷_, _++_, map}
+use mathlib.Core.Logic.{_⊎_, inl, inr, ⊎-elim, _≢_}
+use mathlib.Core.Path.{_≡_, refl, sym, subst, subst⁻¹, _∙_}
+use lib.ListN.{getD, drop}
+use lib.Dec.{leb, ltb, eqb}
+use borrow.Author.Tests.{ltb-true, ltb-false, leb-true, leb-false, eqb-true, eqb-false, eq-eqb, ne-eqb}
+use Rattle.model.specs.Numbers.{InRange, inRange, entry, sumTo, allTo, someTo, lowest, Lowest, Each, each, Distinct}
+use Rattle.model.specs.Questions.{Question, Condition, answerOf, FirstFailure}
+
+pub data Decides (P : Type 0) : Bool → Type 0 where
+  holding : P → Decides P true
+  failing : ¬ P → Decides P false
+
+module _ {P : Type 0} where
+  pub holds : {b : Bool} → Decides P b → b ≡ true → P
+  holds (holding h) e = h
+  holds (failing h) e = absurd (false≢true e)
+
+  pub fails : {b : Bool} → Decides P b → b ≡ false → ¬ P
+  fails (holding h) e = absurd (true≢false e)
+  fails (failing h) e = h
+
+  pub passes : {b : Bool} → Decides P b → P → b ≡ true
+  passes (holding h) k = refl
+  passes (failing h) k = absurd (h k)
+
+  pub refuses : {b : Bool} → Decides P b → ¬ P → b ≡ false
+  refuses (holding h) k = absurd (k h)
+  refuses (failing h) k = refl
+
+  pub decides-not : {b : Bool} → Decides P b → Decides (¬ P) (not b)
+  decides-not (holding h) = failing (λ k. k h)
+  decides-not (failing h) = holding h
+
+  -- a condition that is decided holds or does not
+  pub decided : {b : Bool} → Decides P b → P ⊎ (¬ P)
+  decided (holding h) = inl h
+  decided (failing h) = inr h
+
+  pub decides-iff : {Q : Type 0} {b : Bool} → (P → Q) → (Q → P) → Decides P b → Decides Q b
+  decides-iff f g (holding h) = holding (f h)
+  decides-iff f g (failing h) = failing (λ q. h (g q))
+
+  pub decides-and : {Q : Type 0} {a b : Bool} → Decides P a → Decides Q b → Decides (P × Q) (a && b)
+  decides-and (holding h) (holding k) = holding (h, k)
+  decides-and (holding h) (failing k) = failing (λ both. k (both .1))
+  decides-and (failing h) d = failing (λ both. h (both .0))
+
+  pub decides-or : {Q : Type 0} {a b : Bool} → Decides P a → Decides Q b → Decides (P ⊎ Q) (a || b)
+  decides-or (holding h) d = holding (inl h)
+  decides-or (failing h) (holding k) = holding (inr k)
+  decides-or (failing h) (failing k) = failing (⊎-elim h k)
+
+pub decides-le : (a b : ℕ) → Decides (a ≤ b) (leb a b)
+decides-le a b = go (leb a b) refl
+  where
+    go : (c : Bool) → leb a b ≡ c → Decides (a ≤ b) c
+    go true e = holding (leb-true a b e)
+    go false e = let h = leb-false a b e in failing (λ k. omega arith)
+
+pub decides-lt : (a b : ℕ) → Decides (a < b) (ltb a b)
+decides-lt a b = decides-le (suc a) b
+
+pub decides-eq : (a b : ℕ) → Decides (a ≡ b) (eqb a b)
+decides-eq a b = go (eqb a b) refl
+  where
+    go : (c : Bool) → eqb a b ≡ c → Decides (a ≡ b) c
+    go true e = holding (eqb-true a b e)
+    go false e = failing (eqb-false a b e)
+
+pub decides-range : (i n : ℕ) → Decides (InRange i n) (inRange i n)
+decides-range i n = decides-and (decides-le 1 i) (decides-le i n)
+
+-- over the numbers 1 to n
+module _ (P : ℕ → Type 0) (f : ℕ → Bool) where
+  at-or-below : (n i : ℕ) → InRange i (suc n) → InRange i n ⊎ (suc n ≡ i)
+  at-or-below n i h = go (leb i n) refl
+    where
+      go : (b : Bool) → leb i n ≡ b → InRange i n ⊎ (suc n ≡ i)
+      go true e = inl (h .0, leb-true i n e)
+      go false e = inr (omega (arith, leb-false i n e, h .1))
+
+  pub decides-all : (n : ℕ) → ((i : ℕ) → InRange i n → Decides (P i) (f i)) → Decides ((i : ℕ) → InRange i n → P i) (allTo n f)
+  decides-all zero d = holding (λ i h. absurd (omega arith))
+  decides-all (suc n) d =
+      decides-iff up down (decides-and (decides-all n (λ i h. d i (omega arith))) (d (suc n) (omega arith)))
+    where
+      up : ((i : ℕ) → InRange i n → P i) × P (suc n) → (i : ℕ) → InRange i (suc n) → P i
+      up both i h = ⊎-elim (both .0 i) (λ (e : suc n ≡ i). subst P e (both .1)) (at-or-below n i h)
+
+      down : ((i : ℕ) → InRange i (suc n) → P i) → ((i : ℕ) → InRange i n → P i) × P (suc n)
+      down g = (λ i h. g i (omega arith), g (suc n) (omega arith))
+
+  pub decides-some : (n : ℕ) → ((i : ℕ) → InRange i n → Decides (P i) (f i)) → Decides ((i : ℕ) × InRange i n × P i) (someTo n f)
+  decides-some zero d = failing (λ h. absurd (omega (arith, h .1)))
+  decides-some (suc n) d =
+      decides-iff up down (decides-or (decides-some n (λ i h. d i (omega arith))) (d (suc n) (omega arith)))
+    where
+      up : ((i : ℕ) × InRange i n × P i) ⊎ P (suc n) → (i : ℕ) × InRange i (suc n) × P i
+      up (inl h) = (h .0, omega (arith, h .1), h .2)
+      up (inr h) = (suc n, omega arith, h)
+
+      down : (i : ℕ) × InRange i (suc n) × P i → ((j : ℕ) × InRange j n × P j) ⊎ P (suc n)
+      down h = ⊎-elim (λ (k : InRange (h .0) n). inl (h .0, k, h .2)) (λ (e : suc n ≡ h .0). inr (subst⁻¹ P e (h .2))) (at-or-below n (h .0) (h .1))
+
+  -- a search finds nothing where P holds at each number, and else the lowest number at which it does not
+  pub searched : (n : ℕ) → ((i : ℕ) → InRange i n → Decides (P i) (f i)) → ((lowest n f ≡ 0) × ((i : ℕ) → InRange i n → P i)) ⊎ Lowest n P (lowest n f)
+  searched zero d = inl (refl, λ i h. absurd (omega arith))
+  searched (suc n) d = step (searched n (λ i h. d i (omega arith)))
+    where
+      top : {b : Bool} → Decides (P (suc n)) b → ((i : ℕ) → InRange i n → P i) → ((cond b 0 (suc n) ≡ 0) × ((i : ℕ) → InRange i (suc n) → P i)) ⊎ Lowest (suc n) P (cond b 0 (suc n))
+      top (holding h) all = inl (refl, λ i k. ⊎-elim (all i) (λ (e : suc n ≡ i). subst P e h) (at-or-below n i k))
+      top (failing h) all = inr (record { within = omega arith; fails = h; below = λ i low high. all i (omega arith) })
+
+      Found : ℕ → Type 0
+      Found m = ((m ≡ 0) × ((i : ℕ) → InRange i (suc n) → P i)) ⊎ Lowest (suc n) P m
+
+      step : ((lowest n f ≡ 0) × ((i : ℕ) → InRange i n → P i)) ⊎ Lowest n P (lowest n f) → Found (cond (eqb (lowest n f) 0) (cond (f (suc n)) 0 (suc n)) (lowest n f))
+      step (inl none) = rw (eq-eqb (lowest n f) 0 (none .0)) (top (d (suc n) (omega arith)) (none .1))
+      step (inr l) =
+          rw (ne-eqb (lowest n f) 0 (λ e. omega (arith, l .within)))
+          (inr (record { within = omega (arith, l .within); fails = l .fails; below = l .below }))
+
+  module _ (n : ℕ) (d : (i : ℕ) → InRange i n → Decides (P i) (f i)) where
+    pub decides-lowest : Decides ((i : ℕ) → InRange i n → P i) (eqb (lowest n f) 0)
+    decides-lowest = decides-iff all none (decides-eq (lowest n f) 0)
+      where
+        all : lowest n f ≡ 0 → (i : ℕ) → InRange i n → P i
+        all e = ⊎-elim (λ s. s .1) (λ (l : Lowest n P (lowest n f)). absurd (omega (arith, l .within, e))) (searched n d)
+
+        none : ((i : ℕ) → InRange i n → P i) → lowest n f ≡ 0
+        none h = ⊎-elim (λ s. s .0) (λ (l : Lowest n P (lowest n f)). absurd (l .fails (h _ (l .within)))) (searched n d)
+
+    pub lowest-found : (¬ ((i : ℕ) → InRange i n → P i)) → Lowest n P (lowest n f)
+    lowest-found h = ⊎-elim (λ s. absurd (h (s .1))) (λ (l : Lowest n P (lowest n f)). l) (searched n d)
+
+-- over the entries of a list
+module _ {A : Type 0} {P : A → Type 0} {f : A → Bool} (d : (x : A) → Decides (P x) (f x)) where
+  pub decides-each : (xs : List A) → Decides (Each P xs) (each f xs)
+  decides-each [] = holding tt
+  decides-each (x ∷ xs) = decides-and (d x) (decides-each xs)
+
+  -- beyond the first n entries, with an entry z that counts as met where the list ends
+  pub decides-beyond : (z : A) → P z → (n : ℕ) (xs : List A) → Decides ((i : ℕ) → n < i → P (entry xs i z)) (each f (drop n xs))
+  decides-beyond z h zero [] = holding from
+    where
+      from : (i : ℕ) → 0 < i → P (entry [] i z)
+      from zero k = h
+      from (suc i) k = h
+  decides-beyond z h zero (x ∷ xs) = decides-iff up down (decides-and (d x) (decides-beyond z h zero xs))
+    where
+      up : P x × ((i : ℕ) → 0 < i → P (entry xs i z)) → (i : ℕ) → 0 < i → P (entry (x ∷ xs) i z)
+      up both zero k = h
+      up both (suc zero) k = both .0
+      up both (suc (suc i)) k = both .1 (suc i) (omega arith)
+
+      down : ((i : ℕ) → 0 < i → P (entry (x ∷ xs) i z)) → P x × ((i : ℕ) → 0 < i → P (entry xs i z))
+      down g = (g 1 (omega arith), rest)
+        where
+          rest : (i : ℕ) → 0 < i → P (entry xs i z)
+          rest zero k = h
+          rest (suc i) k = g (suc (suc i)) (omega arith)
+  decides-beyond z h (suc n) [] = holding from
+    where
+      from : (i : ℕ) → suc n < i → P (entry [] i z)
+      from zero k = h
+      from (suc i) k = h
+  decides-beyond z h (suc n) (x ∷ xs) = decides-iff up down (decides-beyond z h n xs)
+    where
+      up : ((i : ℕ) → n < i → P (entry xs i z)) → (i : ℕ) → suc n < i → P (entry (x ∷ xs) i z)
+      up g zero k = h
+      up g (suc zero) k = absurd (omega arith)
+      up g (suc (suc i)) k = g (suc i) (omega arith)
+
+      down : ((i : ℕ) → suc n < i → P (entry (x ∷ xs) i z)) → (i : ℕ) → n < i → P (entry xs i z)
+      down g zero k = h
+      down g (suc i) k = g (suc (suc i)) (omega arith)
+
+-- Questions that are computed answer questions that are worded: each is decided, its refusal says what it should, and no
+-- refusal is the acceptance.
+pub data Answers {A : Type 0} (isOk : A → Bool) : List (Question A) → List (Condition A) → Type 1 where
+  none : Answers isOk [] []
+  next : {q : Question A} {c : Condition A} {qs : List (Question A)} {cs : List (Condition A)} → Decides (c .holds) (q .met) → ((¬ c .holds) → c .refusal (q .refusal)) → isOk (q .refusal) ≡ false → Answers isOk qs cs → Answers isOk (q ∷ qs) (c ∷ cs)
+
+abbrev pub AllHold : {A : Type 0} → List (Condition A) → Type 0
+AllHold [] = Unit {0}
+AllHold (c ∷ cs) = c .holds × AllHold cs
+
+module _ {A : Type 0} (isOk : A → Bool) (ok : A) where
+  choose : {P : Type 0} {b : Bool} (F R : A → Type 0) (x y : A) → Decides P b → ((¬ P) → R y) → F x → ((¬ P) × R (cond b x y)) ⊎ (P × F (cond b x y))
+  choose F R x y (holding h) refusal rest = inr (h, rest)
+  choose F R x y (failing h) refusal rest = inl (h, refusal h)
+
+  pub first-failure : {qs : List (Question A)} {cs : List (Condition A)} → Answers isOk qs cs → FirstFailure ok cs (answerOf ok qs)
+  first-failure none = refl
+  first-failure (next {q} {c} {qs} {cs} d r o rest) = choose (FirstFailure ok cs) (c .refusal) (answerOf ok qs) (q .refusal) d r (first-failure rest)
+
+  pub accepted : {qs : List (Question A)} {cs : List (Condition A)} → Answers isOk qs cs → AllHold cs → answerOf ok qs ≡ ok
+  accepted none h = refl
+  accepted (next {q} {c} {qs} {cs} d r o rest) h = rw (passes d (h .0)) (accepted rest (h .1))
+
+  pub all-hold : isOk ok ≡ true → {qs : List (Question A)} {cs : List (Condition A)} → Answers isOk qs cs → isOk (answerOf ok qs) ≡ true → AllHold cs
+  all-hold e none h = tt
+  all-hold e (next {q} {c} {qs} {cs} d r o rest) h = step (λ k. all-hold e rest k) d h
+    where
+      step : (isOk (answerOf ok qs) ≡ true → AllHold cs) → {b : Bool} → Decides (c .holds) b → isOk (cond b (answerOf ok qs) (q .refusal)) ≡ true → c .holds × AllHold cs
+      step later (holding k) accepted = (k, later accepted)
+      step later (failing k) accepted = absurd (false≢true (sym o ∙ accepted))

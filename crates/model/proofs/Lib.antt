@@ -1,0 +1,2 @@
+-- The laws of the model. Read in this order.
+pub mod Decide

@@ -1,0 +1,117 @@
+-- Jobs in the order they were loaded: what they hold, how a list of them changes, and when it agrees with a plan.
+-- Jobs meet only in the sums below (Condition 4 of source document 003).
+use Prim.Native.Nat.{ℕ, zero, suc, _+_, _*_, _≤_}
+use mathlib.Core.Bool.{Bool, true, false, cond, not, _&&_, _||_}
+use mathlib.Core.List.{List, [], _∷_, _++_, map}
+use mathlib.Core.Path.{_≡_}
+use lib.Dec.{leb, eqb}
+use Rattle.model.specs.Limits.{maxNumber}
+use Rattle.model.specs.Numbers.{InRange, inRange, sumTo, lowest, Each, each, Distinct}
+use Rattle.model.specs.Plan.{lengthOf, IsStage, demandOf, weightOf, capacityOf, boundOf, stageAfter}
+use Rattle.model.specs.declared.Plan.{Plan}
+use Rattle.model.specs.declared.Job.{Job}
+
+-- what stands where no job does
+abbrev pub noJob : Job
+noJob = record { number = 0; kind = 0; stage = 0 }
+
+abbrev pub isAt : Job → ℕ → ℕ → Bool
+isAt j t k = eqb (j .kind) t && eqb (j .stage) k
+
+-- the jobs at stage k of type t
+abbrev pub jobsAt : List Job → ℕ → ℕ → ℕ
+jobsAt [] t k = 0
+jobsAt (j ∷ js) t k = cond (isAt j t k) 1 0 + jobsAt js t k
+
+-- the sum over all stages of an amount × the jobs at that stage: the left side of Equation 1
+unfoldable pub overStages : Plan → (ℕ → ℕ → ℕ) → List Job → ℕ
+overStages p f js = sumTo (p .types) (λ (t : ℕ). sumTo (lengthOf p t) (λ (k : ℕ). f t k * jobsAt js t k))
+
+-- the units of resource r that the present stages demand, and the sum of row w
+abbrev pub unitsHeld : Plan → ℕ → List Job → ℕ
+unitsHeld p r js = overStages p (demandOf p r) js
+
+abbrev pub rowSum : Plan → ℕ → List Job → ℕ
+rowSum p w js = overStages p (weightOf p w) js
+
+abbrev pub KeepsCapacities : Plan → List Job → Type 0
+KeepsCapacities p js = (r : ℕ) → InRange r (p .resources) → unitsHeld p r js ≤ capacityOf p r
+
+abbrev pub KeepsRows : Plan → List Job → Type 0
+KeepsRows p js = (w : ℕ) → InRange w (p .rows) → rowSum p w js ≤ boundOf p w
+
+-- the same sums as they are computed, job by job
+abbrev pub overJobs : (ℕ → ℕ → ℕ) → List Job → ℕ
+overJobs f [] = 0
+overJobs f (j ∷ js) = f (j .kind) (j .stage) + overJobs f js
+
+-- the lowest resource exceeded, and the lowest row broken; 0 for none
+unfoldable pub exceeded : Plan → List Job → ℕ
+exceeded p js = lowest (p .resources) (λ (r : ℕ). leb (overJobs (demandOf p r) js) (capacityOf p r))
+
+unfoldable pub broken : Plan → List Job → ℕ
+broken p js = lowest (p .rows) (λ (w : ℕ). leb (overJobs (weightOf p w) js) (boundOf p w))
+
+-- a job of the list with that number, and what stands before and after it
+pub record Active (n : ℕ) (js : List Job) : Type 0 where
+  pub before : List Job
+  pub job : Job
+  pub after : List Job
+  pub whole : js ≡ before ++ job ∷ after
+  pub numbered : job .number ≡ n
+
+abbrev pub isNumbered : ℕ → Job → Bool
+isNumbered n j = eqb (j .number) n
+
+abbrev pub isActive : ℕ → List Job → Bool
+isActive n [] = false
+isActive n (j ∷ js) = isNumbered n j || isActive n js
+
+abbrev pub jobOf : ℕ → List Job → Job
+jobOf n [] = noJob
+jobOf n (j ∷ js) = cond (isNumbered n j) j (jobOf n js)
+
+-- a job as it is loaded, and as it stands after an advance
+abbrev pub loadedJob : ℕ → ℕ → Job
+loadedJob n t = record { number = n; kind = t; stage = 1 }
+
+abbrev pub advancedJob : Job → Job
+advancedJob j = record { number = j .number; kind = j .kind; stage = stageAfter (j .stage) }
+
+-- the list after a load, an advance and an unload: a load comes last, an advance keeps its place, an unload closes the gap
+abbrev pub loaded : ℕ → ℕ → List Job → List Job
+loaded n t js = js ++ loadedJob n t ∷ []
+
+abbrev pub advanced : ℕ → List Job → List Job
+advanced n [] = []
+advanced n (j ∷ js) = cond (isNumbered n j) (advancedJob j ∷ js) (j ∷ advanced n js)
+
+abbrev pub unloaded : ℕ → List Job → List Job
+unloaded n [] = []
+unloaded n (j ∷ js) = cond (isNumbered n j) js (j ∷ unloaded n js)
+
+abbrev pub numbers : List Job → List ℕ
+numbers js = map (λ (j : Job). j .number) js
+
+-- the jobs agree with the plan
+pub record Agreeing (p : Plan) (js : List Job) : Type 0 where
+  pub numbered : Each (λ (j : Job). InRange (j .number) maxNumber) js
+  pub distinct : Distinct (numbers js)
+  pub placed : Each (λ (j : Job). IsStage p (j .kind) (j .stage)) js
+  pub capacities : KeepsCapacities p js
+  pub rows : KeepsRows p js
+
+abbrev pub distinct : List ℕ → Bool
+distinct [] = true
+distinct (n ∷ ns) = each (λ (m : ℕ). not (eqb m n)) ns && distinct ns
+
+unfoldable pub isStage : Plan → ℕ → ℕ → Bool
+isStage p t k = inRange t (p .types) && inRange k (lengthOf p t)
+
+unfoldable pub agreeing : Plan → List Job → Bool
+agreeing p js =
+    each (λ (j : Job). inRange (j .number) maxNumber) js
+    && distinct (numbers js)
+    && each (λ (j : Job). isStage p (j .kind) (j .stage)) js
+    && eqb (exceeded p js) 0
+    && eqb (broken p js) 0

@@ -1,0 +1,53 @@
+-- The plan as a resource allocation system: Definition 1 of source document 003. Resources, types, stages and rows are
+-- named by their numbers, from 1; a number out of range has capacity, demand, weight, rank and bound 0. Stages follow in
+-- number order, so every job ends after finitely many (Condition 1) and every stage is passed (Condition 2).
+use Prim.Native.Nat.{ℕ, _+_, _-_, _≤_}
+use mathlib.Core.List.{[]}
+use Rattle.model.specs.Numbers.{InRange, entry, at, sumTo}
+use Rattle.model.specs.declared.Stage.{Stage}
+use Rattle.model.specs.declared.Plan.{Plan}
+
+abbrev pub capacityOf : Plan → ℕ → ℕ
+capacityOf p r = at (p .capacity) r
+
+-- 0 where no rank is given
+abbrev pub rankOf : Plan → ℕ → ℕ
+rankOf p r = at (p .rank) r
+
+abbrev pub boundOf : Plan → ℕ → ℕ
+boundOf p w = at (p .bound) w
+
+-- the number of stages of type t
+abbrev pub lengthOf : Plan → ℕ → ℕ
+lengthOf p t = at (p .lengths) t
+
+-- (t, k) is a stage of the plan
+abbrev pub IsStage : Plan → ℕ → ℕ → Type 0
+IsStage p t k = InRange t (p .types) × InRange k (lengthOf p t)
+
+-- the stages of all types together
+unfoldable pub allStages : Plan → ℕ
+allStages p = sumTo (p .types) (lengthOf p)
+
+-- stage k of type t: the stages are kept type by type
+unfoldable pub stageOf : Plan → ℕ → ℕ → Stage
+stageOf p t k = entry (p .stages) (sumTo (t - 1) (lengthOf p) + k) (record { demand = []; weight = [] })
+
+-- the units of resource r that stage k of type t needs
+unfoldable pub demandOf : Plan → ℕ → ℕ → ℕ → ℕ
+demandOf p r t k = at (stageOf p t k .demand) r
+
+-- the weight of stage k of type t in row w
+unfoldable pub weightOf : Plan → ℕ → ℕ → ℕ → ℕ
+weightOf p w t k = at (stageOf p t k .weight) w
+
+abbrev pub Demands : Plan → ℕ → ℕ → ℕ → Type 0
+Demands p t k r = 1 ≤ demandOf p r t k
+
+-- the stage after stage k
+abbrev pub stageAfter : ℕ → ℕ
+stageAfter k = k + 1
+
+-- the stages still before a job of type t at stage k, the present one included
+abbrev pub stagesLeft : Plan → ℕ → ℕ → ℕ
+stagesLeft p t k = lengthOf p t - k + 1

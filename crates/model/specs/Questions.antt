@@ -1,0 +1,31 @@
+-- Questions in an order: the first that fails decides the answer.
+use mathlib.Core.Bool.{Bool, cond}
+use mathlib.Core.List.{List, [], _∷_}
+use mathlib.Core.Path.{_≡_}
+use mathlib.Core.Logic.{_⊎_}
+
+-- a question as it is computed: is it met, and what is answered if not
+pub record Question (A : Type 0) : Type 0 where
+  pub met : Bool
+  pub refusal : A
+
+abbrev pub ask : {A : Type 0} → Bool → A → Question A
+ask b a = record { met = b; refusal = a }
+
+-- the refusal of the first question that is not met, `ok` where all are
+abbrev pub answerOf : {A : Type 0} → A → List (Question A) → A
+answerOf ok [] = ok
+answerOf ok (q ∷ qs) = cond (q .met) (answerOf ok qs) (q .refusal)
+
+-- a question as it is worded: what it asks, and what the refusal then says
+pub record Condition (A : Type 0) : Type 1 where
+  pub holds : Type 0
+  pub refusal : A → Type 0
+
+abbrev pub asks : {A : Type 0} → Type 0 → A → Condition A
+asks P a = record { holds = P; refusal = λ b. b ≡ a }
+
+-- the answer is that of the first question that fails, `ok` where none does
+abbrev pub FirstFailure : {A : Type 0} → A → List (Condition A) → A → Type 0
+FirstFailure ok [] a = a ≡ ok
+FirstFailure ok (q ∷ qs) a = ((¬ q .holds) × q .refusal a) ⊎ (q .holds × FirstFailure ok qs a)

@@ -1,0 +1,141 @@
+-- The upstream rule of document 01 and the check that answers by it.
+use Prim.Native.Nat.{ℕ, _+_, _-_, _≤_, _<_}
+use mathlib.Core.Bool.{Bool, true, false, not, cond, _&&_, _||_}
+use mathlib.Core.List.{List, [], _∷_}
+use mathlib.Core.Path.{_≡_}
+use mathlib.Core.Logic.{_≢_}
+use lib.Dec.{leb, ltb, eqb}
+use Rattle.model.specs.Numbers.{InRange, inRange, sumTo, allTo, someTo, lowest, Lowest}
+use Rattle.model.specs.Questions.{Question, Condition, ask, asks, answerOf}
+use Rattle.model.specs.Plan.{capacityOf, rankOf, boundOf, lengthOf, IsStage, demandOf, weightOf, Demands}
+use Rattle.model.specs.Soundness.{Sound, sound}
+use Rattle.model.specs.declared.Plan.{Plan}
+use Rattle.model.specs.declared.Check.{Check}
+use Rattle.model.specs.declared.Check.the-variants.{Meets, UnsoundPlan, NoRank, NotOneUnit, RowCount, WrongWeight, WrongBound}
+
+-- the stage demands a resource whose rank is at most that of `target`
+abbrev pub RankedUpTo : Plan → ℕ → ℕ → ℕ → Type 0
+RankedUpTo p target t k = (r : ℕ) × InRange r (p .resources) × Demands p t k r × (rankOf p r ≤ rankOf p target)
+
+-- stage k of type t is upstream of the resource (document 01's term)
+pub record UpstreamOf (p : Plan) (resource t k : ℕ) : Type 0 where
+  pub q : ℕ
+  pub from : k ≤ q
+  pub within : q ≤ lengthOf p t
+  pub demands : Demands p t q resource
+  pub between : (i : ℕ) → k ≤ i → i < q → RankedUpTo p resource t i
+
+-- the stage demands exactly one unit of one resource
+pub record OneUnit (p : Plan) (t k : ℕ) : Type 0 where
+  pub resource : ℕ
+  pub within : InRange resource (p .resources)
+  pub one : demandOf p resource t k ≡ 1
+  pub others : (r : ℕ) → InRange r (p .resources) → r ≢ resource → demandOf p r t k ≡ 0
+
+abbrev pub Ranked : Plan → Type 0
+Ranked p = (r : ℕ) → InRange r (p .resources) → 1 ≤ rankOf p r
+
+abbrev pub OneUnits : Plan → ℕ → Type 0
+OneUnits p t = (k : ℕ) → InRange k (lengthOf p t) → OneUnit p t k
+
+-- row r is weighted 1 at every stage upstream of resource r and 0 elsewhere
+abbrev pub UpstreamRow : Plan → ℕ → Type 0
+UpstreamRow p r = (t k : ℕ) → IsStage p t k → (UpstreamOf p r t k → weightOf p r t k ≡ 1) × ((¬ UpstreamOf p r t k) → weightOf p r t k ≡ 0)
+
+-- the bound of row r is between 1 and the capacity of resource r
+abbrev pub UpstreamBound : Plan → ℕ → Type 0
+UpstreamBound p r = InRange (boundOf p r) (capacityOf p r)
+
+-- the upstream rule (document 01's term): the check's questions, all met
+pub record UpstreamRule (p : Plan) : Type 0 where
+  pub sound : Sound p
+  pub ranked : Ranked p
+  pub one-units : (t : ℕ) → InRange t (p .types) → OneUnits p t
+  pub as-many-rows : p .rows ≡ p .resources
+  pub rows : (r : ℕ) → InRange r (p .rows) → UpstreamRow p r
+  pub bounds : (r : ℕ) → InRange r (p .rows) → UpstreamBound p r
+
+-- the check's questions as they are worded: what is asked, and the number and place of the refusal
+abbrev pub checkConditions : Plan → List (Condition Check)
+checkConditions p =
+    asks (Sound p) UnsoundPlan
+    ∷ asks (Ranked p) NoRank
+    ∷ record {
+      holds = (t : ℕ) → InRange t (p .types) → OneUnits p t;
+      refusal = λ a. (t k : ℕ) × (a ≡ NotOneUnit t k) × Lowest (p .types) (OneUnits p) t × Lowest (lengthOf p t) (OneUnit p t) k;
+    }
+    ∷ asks (p .rows ≡ p .resources) RowCount
+    ∷ record {
+      holds = (r : ℕ) → InRange r (p .rows) → UpstreamRow p r;
+      refusal = λ a. (r : ℕ) × (a ≡ WrongWeight r) × Lowest (p .rows) (UpstreamRow p) r;
+    }
+    ∷ record {
+      holds = (r : ℕ) → InRange r (p .rows) → UpstreamBound p r;
+      refusal = λ a. (r : ℕ) × (a ≡ WrongBound r) × Lowest (p .rows) (UpstreamBound p) r;
+    }
+    ∷ []
+
+-- the same, computed
+abbrev pub demands : Plan → ℕ → ℕ → ℕ → Bool
+demands p t k r = leb 1 (demandOf p r t k)
+
+unfoldable pub rankedUpTo : Plan → ℕ → ℕ → ℕ → Bool
+rankedUpTo p target t k = someTo (p .resources) (λ (r : ℕ). demands p t k r && leb (rankOf p r) (rankOf p target))
+
+-- some stage q from k on demands the resource, and the stages k to q - 1 are ranked up to it
+unfoldable pub upstreamOf : Plan → ℕ → ℕ → ℕ → Bool
+upstreamOf p resource t k =
+    someTo (lengthOf p t) (λ (q : ℕ). leb k q && demands p t q resource && allTo (q - 1) (λ (i : ℕ). ltb i k || rankedUpTo p resource t i))
+
+unfoldable pub oneUnit : Plan → ℕ → ℕ → Bool
+oneUnit p t k = eqb (sumTo (p .resources) (λ (r : ℕ). demandOf p r t k)) 1
+
+-- the lowest stage of type t that does not demand one unit, and the lowest type that has one; 0 for none
+unfoldable pub oddStage : Plan → ℕ → ℕ
+oddStage p t = lowest (lengthOf p t) (oneUnit p t)
+
+unfoldable pub oddType : Plan → ℕ
+oddType p = lowest (p .types) (λ (t : ℕ). eqb (oddStage p t) 0)
+
+unfoldable pub upstreamRow : Plan → ℕ → Bool
+upstreamRow p r =
+    allTo (p .types) (λ (t : ℕ). allTo (lengthOf p t) (λ (k : ℕ). eqb (weightOf p r t k) (cond (upstreamOf p r t k) 1 0)))
+
+-- the lowest row with a wrong weight, and with a wrong bound; 0 for none
+unfoldable pub oddRow : Plan → ℕ
+oddRow p = lowest (p .rows) (upstreamRow p)
+
+unfoldable pub oddBound : Plan → ℕ
+oddBound p = lowest (p .rows) (λ (r : ℕ). inRange (boundOf p r) (capacityOf p r))
+
+abbrev pub checkQuestions : Plan → List (Question Check)
+checkQuestions p =
+    ask (sound p) UnsoundPlan
+    ∷ ask (allTo (p .resources) (λ (r : ℕ). leb 1 (rankOf p r))) NoRank
+    ∷ ask (eqb (oddType p) 0) (NotOneUnit (oddType p) (oddStage p (oddType p)))
+    ∷ ask (eqb (p .rows) (p .resources)) RowCount
+    ∷ ask (eqb (oddRow p) 0) (WrongWeight (oddRow p))
+    ∷ ask (eqb (oddBound p) 0) (WrongBound (oddBound p))
+    ∷ []
+
+unfoldable pub check : Plan → Check
+check p = answerOf Meets (checkQuestions p)
+
+-- the paper's number and two places of each answer
+abbrev pub checkNumber : Check → ℕ
+checkNumber Meets = 0
+checkNumber UnsoundPlan = 11
+checkNumber NoRank = 21
+checkNumber (NotOneUnit t k) = 22
+checkNumber RowCount = 23
+checkNumber (WrongWeight r) = 24
+checkNumber (WrongBound r) = 25
+
+abbrev pub checkPlace : Check → ℕ × ℕ
+checkPlace Meets = (0, 0)
+checkPlace UnsoundPlan = (0, 0)
+checkPlace NoRank = (0, 0)
+checkPlace (NotOneUnit t k) = (t, k)
+checkPlace RowCount = (0, 0)
+checkPlace (WrongWeight r) = (r, 0)
+checkPlace (WrongBound r) = (r, 0)

@@ -1,0 +1,65 @@
+-- Document 01's starred runs that need no plan text, as rows of one table: what is asked, and the numbers that the
+-- paper gives for it.
+use Prim.Native.Nat.{ℕ, zero, suc}
+use mathlib.Core.List.{List, [], _∷_, _++_, map}
+use Rattle.model.specs.Upstream.{check, checkNumber, checkPlace}
+use Rattle.model.specs.Jobs.{rowSum, broken}
+use Rattle.model.specs.declared.Plan.{Plan}
+use Rattle.model.specs.declared.Job.{Job}
+use Rattle.admission.specs.Table.{tableOf, jobsOf}
+use Rattle.admission.specs.Events.{answer, tableAfter, answerNumber, answerPlace}
+use Rattle.admission.specs.Drain.{drain, endNumber}
+use Rattle.admission.specs.declared.Event.{Event}
+use Rattle.admission.specs.declared.Event.the-variants.{Advance}
+use Rattle.worked.specs.Plans.{crossingWith, crossingPlan, equation40, withoutRows, oneStation, jobsPerStage}
+
+-- what is asked
+pub data Run : Type 0 where
+  checked : Plan → Run
+  weighed : Plan → List Job → Run
+  drained : Plan → List Job → ℕ → Run
+  answered : Plan → List Job → Event → Run
+
+sums : Plan → List Job → ℕ → List ℕ
+sums p js zero = []
+sums p js (suc w) = sums p js w ++ rowSum p (suc w) js ∷ []
+
+stagesOf : List Job → List ℕ
+stagesOf js = map (λ (j : Job). j .stage) js
+
+-- the numbers that the definitions give: of a check its answer and two places; of jobs against the rows each row's sum
+-- and the row broken; of a drain its answer and moves, of an event its answer and place, both with the stages left
+unfoldable pub result : Run → List ℕ
+unfolding sums stagesOf
+result (checked p) = checkNumber (check p) ∷ checkPlace (check p) .0 ∷ checkPlace (check p) .1 ∷ []
+result (weighed p js) = sums p js (p .rows) ++ broken p js ∷ []
+result (drained p js budget) =
+    let d = drain p (tableOf js) budget in
+    endNumber (d .end) ∷ d .moves ∷ stagesOf (jobsOf (d .table))
+result (answered p js e) =
+    let a = answer p (tableOf js) e in
+    answerNumber a ∷ answerPlace a ∷ stagesOf (jobsOf (tableAfter p (tableOf js) e))
+
+pub record Row : Type 0 where
+  pub asked : Run
+  pub expected : List ℕ
+
+row : Run → List ℕ → Row
+row r xs = record { asked = r; expected = xs }
+
+unfoldable pub rows : List Row
+unfolding row
+rows =
+    row (checked crossingPlan) (0 ∷ 0 ∷ 0 ∷ [])
+    ∷ row (checked (crossingWith 2 0)) (25 ∷ 2 ∷ 0 ∷ [])
+    ∷ row (checked (crossingWith 1 1)) (24 ∷ 1 ∷ 0 ∷ [])
+    ∷ row (weighed equation40 (jobsPerStage 1 0 0 1 1 0)) (4 ∷ 2 ∷ 7 ∷ 0 ∷ [])
+    ∷ row (weighed equation40 (jobsPerStage 1 1 0 1 1 0)) (4 ∷ 3 ∷ 9 ∷ 3 ∷ [])
+    ∷ row (weighed equation40 (jobsPerStage 1 2 0 1 0 0)) (1 ∷ 4 ∷ 8 ∷ 2 ∷ [])
+    ∷ row (weighed equation40 (jobsPerStage 1 0 0 0 2 0)) (7 ∷ 0 ∷ 8 ∷ 1 ∷ [])
+    ∷ row (drained crossingPlan (jobsPerStage 1 0 0 0 0 0) 2) (31 ∷ 2 ∷ 3 ∷ [])
+    ∷ row (drained crossingPlan (jobsPerStage 1 0 0 0 0 0) 3) (0 ∷ 3 ∷ [])
+    ∷ row (drained crossingPlan [] 0) (0 ∷ 0 ∷ [])
+    ∷ row (drained withoutRows (jobsPerStage 1 1 0 1 1 0) 5) (32 ∷ 0 ∷ 1 ∷ 2 ∷ 1 ∷ 2 ∷ [])
+    ∷ row (answered oneStation (jobsPerStage 1 0 0 0 0 0) (Advance 1)) (0 ∷ 0 ∷ 2 ∷ [])
+    ∷ []
