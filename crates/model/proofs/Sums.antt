@@ -1,0 +1,106 @@
+-- The sum over all stages of an amount × the jobs at that stage is the sum over the jobs: both add up over lists, and one
+-- job counts once, at its own stage. Stated over the amount, so units and rows are one case.
+use Prim.Native.Nat.{ℕ, zero, suc, _+_, _*_, _≤_, _<_}
+use native.Mathlib.Omega.{arith}
+use mathlib.Core.Bool.{Bool, true, false, cond, _&&_}
+use mathlib.Core.List.{List, [], _∷_, _++_}
+use mathlib.Core.Logic.{_≢_, _⊎_, inl, inr}
+use mathlib.Core.Path.{_≡_, refl, sym, ap, _∙_}
+use lib.Dec.{eqb}
+use borrow.Author.Tests.{eq-eqb, ne-eqb}
+use Rattle.model.specs.Numbers.{InRange, sumTo, Each}
+use Rattle.model.specs.Plan.{lengthOf, IsStage}
+use Rattle.model.specs.Jobs.{isAt, jobsAt, overStages, overJobs}
+use Rattle.model.specs.declared.Plan.{Plan}
+use Rattle.model.specs.declared.Job.{Job}
+use Rattle.model.proofs.Decide.{decides-eq, decided}
+
+pub sum-cong : (n : ℕ) {g h : ℕ → ℕ} → ((i : ℕ) → g i ≡ h i) → sumTo n g ≡ sumTo n h
+sum-cong zero e = refl
+sum-cong (suc n) {g} {h} e = omega (arith, sum-cong n {g = g} {h = h} e, e (suc n))
+
+sum-add : (n : ℕ) (g h : ℕ → ℕ) → sumTo n (λ (i : ℕ). g i + h i) ≡ sumTo n g + sumTo n h
+sum-add zero g h = omega arith
+sum-add (suc n) g h = omega (arith, sum-add n g h)
+
+pub sum-zero : (n : ℕ) {g : ℕ → ℕ} → ((i : ℕ) → InRange i n → g i ≡ 0) → sumTo n g ≡ 0
+sum-zero zero e = refl
+sum-zero (suc n) {g} e = omega (arith, sum-zero n {g = g} (λ i h. e i (omega arith)), e (suc n) (omega arith))
+
+-- a sum with one place that counts
+pub sum-single : (n : ℕ) (g : ℕ → ℕ) (a : ℕ) → InRange a n → ((i : ℕ) → i ≢ a → g i ≡ 0) → sumTo n g ≡ g a
+sum-single zero g a h e = absurd (omega arith)
+sum-single (suc n) g a h e = step (λ k. sum-single n g a k e) (decided (decides-eq (suc n) a))
+  where
+    step : (InRange a n → sumTo n g ≡ g a) → (suc n ≡ a) ⊎ (suc n ≢ a) → sumTo n g + g (suc n) ≡ g a
+    step below (inl top) = omega (arith, sum-zero n {g = g} (λ i k. e i (λ same. omega arith)), ap g top)
+    step below (inr other) = omega (arith, below (omega arith), e (suc n) other)
+
+jobs-at-append : (xs ys : List Job) (t k : ℕ) → jobsAt (xs ++ ys) t k ≡ jobsAt xs t k + jobsAt ys t k
+jobs-at-append [] ys t k = omega arith
+jobs-at-append (j ∷ xs) ys t k = omega (arith, jobs-at-append xs ys t k)
+
+module _ (p : Plan) (f : ℕ → ℕ → ℕ) where
+  pub over-stages-append : (xs ys : List Job) → overStages p f (xs ++ ys) ≡ overStages p f xs + overStages p f ys
+  unfolding overStages
+  over-stages-append xs ys =
+      sum-cong (p .types) (λ t. sum-cong (lengthOf p t) (λ k. spread t k) ∙ sum-add (lengthOf p t) (part xs t) (part ys t))
+      ∙ sum-add (p .types) (λ (t : ℕ). sumTo (lengthOf p t) (part xs t)) (λ (t : ℕ). sumTo (lengthOf p t) (part ys t))
+    where
+      part : List Job → ℕ → ℕ → ℕ
+      part js t k = f t k * jobsAt js t k
+
+      spread : (t k : ℕ) → f t k * jobsAt (xs ++ ys) t k ≡ f t k * jobsAt xs t k + f t k * jobsAt ys t k
+      spread t k = rw (jobs-at-append xs ys t k) (omega arith)
+
+  pub over-stages-one : (j : Job) → IsStage p (j .kind) (j .stage) → overStages p f (j ∷ []) ≡ f (j .kind) (j .stage)
+  unfolding overStages
+  over-stages-one j h =
+      sum-single (p .types) (λ (t : ℕ). sumTo (lengthOf p t) (part t)) (j .kind) (h .0) other-type
+      ∙ sum-single (lengthOf p (j .kind)) (part (j .kind)) (j .stage) (h .1) other-stage
+      ∙ here
+    where
+      part : ℕ → ℕ → ℕ
+      part t k = f t k * (cond (isAt j t k) 1 0 + 0)
+
+      other-type : (t : ℕ) → t ≢ j .kind → sumTo (lengthOf p t) (part t) ≡ 0
+      other-type t n = sum-zero (lengthOf p t) (λ k r. rw (ne-eqb (j .kind) t (λ e. n (sym e))) (omega arith))
+
+      other-stage : (k : ℕ) → k ≢ j .stage → part (j .kind) k ≡ 0
+      other-stage k n = rw (eq-eqb (j .kind) (j .kind) refl, ne-eqb (j .stage) k (λ e. n (sym e))) (omega arith)
+
+      here : part (j .kind) (j .stage) ≡ f (j .kind) (j .stage)
+      here = rw (eq-eqb (j .kind) (j .kind) refl, eq-eqb (j .stage) (j .stage) refl) (omega arith)
+
+  over-stages-none : overStages p f [] ≡ 0
+  unfolding overStages
+  over-stages-none = sum-zero (p .types) (λ t r. sum-zero (lengthOf p t) (λ k s. omega arith))
+
+  -- the sum over stages is the sum over jobs
+  pub over-stages-jobs : (js : List Job) → Each (λ (j : Job). IsStage p (j .kind) (j .stage)) js → overStages p f js ≡ overJobs f js
+  over-stages-jobs [] h = over-stages-none
+  over-stages-jobs (j ∷ js) h =
+      over-stages-append (j ∷ []) js ∙ omega (arith, over-stages-one j (h .0), over-stages-jobs js (h .1))
+
+  -- how it changes when one job is added, removed or moved
+  pub over-stages-added : (js : List Job) (j : Job) → IsStage p (j .kind) (j .stage) → overStages p f (js ++ j ∷ []) ≡ overStages p f js + f (j .kind) (j .stage)
+  over-stages-added js j h = omega (arith, over-stages-append js (j ∷ []), over-stages-one j h)
+
+  pub over-stages-removed : (xs ys : List Job) (j : Job) → IsStage p (j .kind) (j .stage) → overStages p f (xs ++ j ∷ ys) ≡ overStages p f (xs ++ ys) + f (j .kind) (j .stage)
+  over-stages-removed xs ys j h =
+      omega (arith, over-stages-append xs (j ∷ ys), over-stages-append (j ∷ []) ys, over-stages-append xs ys, over-stages-one j h)
+
+  pub over-stages-moved : (xs ys : List Job) (i j : Job) → IsStage p (i .kind) (i .stage) → IsStage p (j .kind) (j .stage) → overStages p f (xs ++ j ∷ ys) + f (i .kind) (i .stage) ≡ overStages p f (xs ++ i ∷ ys) + f (j .kind) (j .stage)
+  over-stages-moved xs ys i j h k = omega (arith, over-stages-removed xs ys i h, over-stages-removed xs ys j k)
+
+-- the same of the sum over jobs
+module _ (f : ℕ → ℕ → ℕ) where
+  pub over-jobs-append : (xs ys : List Job) → overJobs f (xs ++ ys) ≡ overJobs f xs + overJobs f ys
+  over-jobs-append [] ys = omega arith
+  over-jobs-append (j ∷ xs) ys = omega (arith, over-jobs-append xs ys)
+
+  pub over-jobs-removed : (xs ys : List Job) (j : Job) → overJobs f (xs ++ j ∷ ys) ≡ overJobs f (xs ++ ys) + f (j .kind) (j .stage)
+  over-jobs-removed xs ys j = omega (arith, over-jobs-append xs (j ∷ ys), over-jobs-append xs ys)
+
+  pub over-jobs-moved : (xs ys : List Job) (i j : Job) → overJobs f (xs ++ j ∷ ys) + f (i .kind) (i .stage) ≡ overJobs f (xs ++ i ∷ ys) + f (j .kind) (j .stage)
+  over-jobs-moved xs ys i j = omega (arith, over-jobs-removed xs ys i, over-jobs-removed xs ys j)
