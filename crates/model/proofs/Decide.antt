@@ -58,6 +58,11 @@ module _ {P : Type 0} where
   decides-or (failing h) (holding k) = holding (inr k)
   decides-or (failing h) (failing k) = failing (⊎-elim h k)
 
+-- a second test that decides its condition only where the first holds
+pub decides-then : {P Q : Type 0} {a b : Bool} → Decides P a → (P → Decides Q b) → Decides (P × Q) (a && b)
+decides-then (holding h) d = decides-iff (λ k. (h, k)) (λ both. both .1) (d h)
+decides-then (failing h) d = failing (λ both. h (both .0))
+
 pub decides-le : (a b : ℕ) → Decides (a ≤ b) (leb a b)
 decides-le a b = go (leb a b) refl
   where

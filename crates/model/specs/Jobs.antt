@@ -93,11 +93,18 @@ unloaded n (j ∷ js) = cond (isNumbered n j) js (j ∷ unloaded n js)
 abbrev pub numbers : List Job → List ℕ
 numbers js = map (λ (j : Job). j .number) js
 
+-- a job's number is in range, and its type and stage are of the plan
+abbrev pub Numbered : Job → Type 0
+Numbered j = InRange (j .number) maxNumber
+
+abbrev pub Placed : Plan → Job → Type 0
+Placed p j = IsStage p (j .kind) (j .stage)
+
 -- the jobs agree with the plan
 pub record Agreeing (p : Plan) (js : List Job) : Type 0 where
-  pub numbered : Each (λ (j : Job). InRange (j .number) maxNumber) js
+  pub numbered : Each Numbered js
   pub distinct : Distinct (numbers js)
-  pub placed : Each (λ (j : Job). IsStage p (j .kind) (j .stage)) js
+  pub placed : Each (Placed p) js
   pub capacities : KeepsCapacities p js
   pub rows : KeepsRows p js
 

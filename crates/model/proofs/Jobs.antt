@@ -1,0 +1,179 @@
+-- Lists of jobs: a number names one job of a list whose numbers differ, so an event's list is the one that the model
+-- names; and the tests on a list decide whether it agrees with the plan.
+use Prim.Native.Nat.{ℕ, zero, suc, _+_, _≤_, _<_}
+use native.Mathlib.Omega.{arith}
+use mathlib.Core.Bool.{Bool, true, false, cond, not, _&&_, _||_}
+use mathlib.Core.List.{List, [], _∷_, _++_, map}
+use mathlib.Core.Logic.{_≢_, _⊎_, inl, inr, ⊎-elim}
+use mathlib.Core.Path.{_≡_, refl, sym, ap, subst, subst⁻¹, _∙_}
+use lib.Dec.{eqb, leb}
+use lib.ListN.{length, length-append}
+use borrow.Author.Tests.{eq-eqb, ne-eqb}
+use Rattle.model.specs.Limits.{maxNumber}
+use Rattle.model.specs.Numbers.{InRange, Lowest, Each, each, Distinct}
+use Rattle.model.specs.Plan.{capacityOf, boundOf, IsStage, demandOf, weightOf, lengthOf}
+use Rattle.model.specs.Jobs.{noJob, overStages, overJobs, unitsHeld, rowSum, KeepsCapacities, KeepsRows, exceeded, broken, Active, isActive, jobOf, advancedJob, loaded, advanced, unloaded, isNumbered, numbers, Numbered, Placed, Agreeing, distinct, isStage, agreeing}
+use Rattle.model.specs.declared.Plan.{Plan}
+use Rattle.model.specs.declared.Job.{Job}
+use Rattle.model.proofs.Decide.{Decides, holding, failing, holds, decided, decides-iff, decides-and, decides-then, decides-or, decides-not, decides-le, decides-eq, decides-range, decides-each, decides-lowest, lowest-found}
+use Rattle.model.proofs.Lists.{append-each, each-at, each-removed}
+use Rattle.model.proofs.Sums.{over-stages-jobs}
+
+-- numbers that differ
+each-number : (P : ℕ → Type 0) (xs : List Job) → Each P (numbers xs) → Each (λ (j : Job). P (j .number)) xs
+each-number P [] h = tt
+each-number P (x ∷ xs) h = (h .0, each-number P xs (h .1))
+
+number-each : (P : ℕ → Type 0) (xs : List Job) → Each (λ (j : Job). P (j .number)) xs → Each P (numbers xs)
+number-each P [] h = tt
+number-each P (x ∷ xs) h = (h .0, number-each P xs (h .1))
+
+-- the number is another than n
+abbrev Other : ℕ → ℕ → Type 0
+Other n m = m ≢ n
+
+abbrev OtherJob : ℕ → Job → Type 0
+OtherJob n j = j .number ≢ n
+
+numbers-moved : (xs ys : List Job) (i j : Job) → i .number ≡ j .number → numbers (xs ++ i ∷ ys) ≡ numbers (xs ++ j ∷ ys)
+numbers-moved [] ys i j e = ap (λ (n : ℕ). n ∷ numbers ys) e
+numbers-moved (x ∷ xs) ys i j e = ap (λ (ns : List ℕ). x .number ∷ ns) (numbers-moved xs ys i j e)
+
+pub distinct-moved : (xs ys : List Job) (i j : Job) → i .number ≡ j .number → Distinct (numbers (xs ++ i ∷ ys)) → Distinct (numbers (xs ++ j ∷ ys))
+distinct-moved xs ys i j e h = subst Distinct (numbers-moved xs ys i j e) h
+
+pub distinct-removed : (xs ys : List Job) (j : Job) → Distinct (numbers (xs ++ j ∷ ys)) → Distinct (numbers (xs ++ ys))
+distinct-removed [] ys j h = h .1
+distinct-removed (x ∷ xs) ys j h = (
+  number-each (Other (x .number)) (xs ++ ys) (each-removed (OtherJob (x .number)) xs j ys (each-number (Other (x .number)) (xs ++ j ∷ ys) (h .0))),
+  distinct-removed xs ys j (h .1),
+)
+
+active-later : {n : ℕ} {js : List Job} (x : Job) → Active n js → Active n (x ∷ js)
+active-later x a =
+    record {
+      before = x ∷ a .before;
+      job = a .job;
+      after = a .after;
+      whole = ap (λ (js : List Job). x ∷ js) (a .whole);
+      numbered = a .numbered;
+    }
+
+pub distinct-added : (js : List Job) (j : Job) → (¬ Active (j .number) js) → Distinct (numbers js) → Distinct (numbers (js ++ j ∷ []))
+distinct-added [] j n h = (tt, tt)
+distinct-added (x ∷ js) j n h = (
+  number-each (Other (x .number)) (js ++ j ∷ []) (append-each (OtherJob (x .number)) js (j ∷ []) (each-number (Other (x .number)) js (h .0)) (other, tt)),
+  distinct-added js j (λ a. n (active-later x a)) (h .1),
+)
+  where
+    other : j .number ≢ x .number
+    other e = n (record { before = []; job = x; after = js; whole = refl; numbered = sym e })
+
+-- the job that a number names, and the lists after its advance and its unload
+pub record Found (n : ℕ) (js : List Job) (a : Active n js) : Type 0 where
+  pub job : jobOf n js ≡ a .job
+  pub advance : advanced n js ≡ a .before ++ advancedJob (a .job) ∷ a .after
+  pub unload : unloaded n js ≡ a .before ++ a .after
+
+found-at : (xs : List Job) (j : Job) (ys : List Job) → Distinct (numbers (xs ++ j ∷ ys)) → Found (j .number) (xs ++ j ∷ ys) (record { before = xs; job = j; after = ys; whole = refl; numbered = refl })
+found-at [] j ys h =
+    record {
+      job = rw (eq-eqb (j .number) (j .number) refl) refl;
+      advance = rw (eq-eqb (j .number) (j .number) refl) refl;
+      unload = rw (eq-eqb (j .number) (j .number) refl) refl;
+    }
+found-at (x ∷ xs) j ys h =
+    let other = each-at (OtherJob (x .number)) xs j ys (each-number (Other (x .number)) (xs ++ j ∷ ys) (h .0)) in
+    let miss : eqb (x .number) (j .number) ≡ false = ne-eqb (x .number) (j .number) (λ e. other (sym e)) in
+    let rest = found-at xs j ys (h .1) in
+    record {
+      job = rw miss (rest .job);
+      advance = rw miss (ap (λ (js : List Job). x ∷ js) (rest .advance));
+      unload = rw miss (ap (λ (js : List Job). x ∷ js) (rest .unload));
+    }
+
+pub found : {n : ℕ} {js : List Job} (a : Active n js) → Distinct (numbers js) → Found n js a
+found {n} {js} a d =
+    let f = found-at (a .before) (a .job) (a .after) (subst (λ (js : List Job). Distinct (numbers js)) (a .whole) d) in
+    record {
+      job = rw (a .whole, ← a .numbered) (f .job);
+      advance = rw (a .whole, ← a .numbered) (f .advance);
+      unload = rw (a .whole, ← a .numbered) (f .unload);
+    }
+
+-- a number is active where some job of the list has it
+none-active : {n : ℕ} → ¬ Active n []
+none-active a = let e = ap length (a .whole) in omega (arith, simp length-append at e)
+
+active-cases : {n : ℕ} {j : Job} {js : List Job} → Active n (j ∷ js) → (j .number ≡ n) ⊎ Active n js
+active-cases {n} {j} {js} a = go (a .before) (a .whole)
+  where
+    go : (xs : List Job) → j ∷ js ≡ xs ++ a .job ∷ a .after → (j .number ≡ n) ⊎ Active n js
+    go [] e = let same : j ≡ a .job = cc in inl (ap (λ (i : Job). i .number) same ∙ a .numbered)
+    go (x ∷ xs) e =
+        let rest : js ≡ xs ++ a .job ∷ a .after = cc in
+        inr (record { before = xs; job = a .job; after = a .after; whole = rest; numbered = a .numbered })
+
+pub active-here : {n : ℕ} {j : Job} (js : List Job) → j .number ≡ n → Active n (j ∷ js)
+active-here {n} {j} js e = record { before = []; job = j; after = js; whole = refl; numbered = e }
+
+pub decides-active : (n : ℕ) (js : List Job) → Decides (Active n js) (isActive n js)
+decides-active n [] = failing none-active
+decides-active n (j ∷ js) =
+    decides-iff (⊎-elim (active-here js) (active-later j)) active-cases (decides-or (decides-eq (j .number) n) (decides-active n js))
+
+-- the tests on a list decide its conditions
+decides-distinct : (ns : List ℕ) → Decides (Distinct ns) (distinct ns)
+decides-distinct [] = holding tt
+decides-distinct (n ∷ ns) = decides-and (decides-each (λ m. decides-not (decides-eq m n)) ns) (decides-distinct ns)
+
+decides-placed : (p : Plan) (j : Job) → Decides (Placed p j) (isStage p (j .kind) (j .stage))
+unfolding isStage
+decides-placed p j = decides-and (decides-range (j .kind) (p .types)) (decides-range (j .stage) (lengthOf p (j .kind)))
+
+-- capacities and rows, as one case: the sum over stages is tested by the sum over jobs
+module _ (p : Plan) (js : List Job) (placed : Each (Placed p) js) where
+  decides-sum : (amount : ℕ → ℕ → ℕ) (bound : ℕ) → Decides (overStages p amount js ≤ bound) (leb (overJobs amount js) bound)
+  decides-sum amount bound = rw (over-stages-jobs p amount js placed) (decides-le (overJobs amount js) bound)
+
+  decides-unit : (r : ℕ) → Decides (unitsHeld p r js ≤ capacityOf p r) (leb (overJobs (demandOf p r) js) (capacityOf p r))
+  decides-unit r = decides-sum (demandOf p r) (capacityOf p r)
+
+  decides-row : (w : ℕ) → Decides (rowSum p w js ≤ boundOf p w) (leb (overJobs (weightOf p w) js) (boundOf p w))
+  decides-row w = decides-sum (weightOf p w) (boundOf p w)
+
+  pub decides-capacities : Decides (KeepsCapacities p js) (eqb (exceeded p js) 0)
+  unfolding exceeded
+  decides-capacities = decides-lowest _ _ (p .resources) (λ r h. decides-unit r)
+
+  pub decides-rows : Decides (KeepsRows p js) (eqb (broken p js) 0)
+  unfolding broken
+  decides-rows = decides-lowest _ _ (p .rows) (λ w h. decides-row w)
+
+  pub lowest-exceeded : (¬ KeepsCapacities p js) → Lowest (p .resources) (λ (r : ℕ). unitsHeld p r js ≤ capacityOf p r) (exceeded p js)
+  unfolding exceeded
+  lowest-exceeded = lowest-found _ _ (p .resources) (λ r h. decides-unit r)
+
+  pub lowest-broken : (¬ KeepsRows p js) → Lowest (p .rows) (λ (w : ℕ). rowSum p w js ≤ boundOf p w) (broken p js)
+  unfolding broken
+  lowest-broken = lowest-found _ _ (p .rows) (λ w h. decides-row w)
+
+pub decides-agreeing : (p : Plan) (js : List Job) → Decides (Agreeing p js) (agreeing p js)
+unfolding agreeing
+decides-agreeing p js =
+    decides-iff whole parts
+    (decides-then
+    (decides-then
+    (decides-and (decides-and (decides-each (λ j. decides-range (j .number) maxNumber) js) (decides-distinct (numbers js)))
+    (decides-each (decides-placed p) js))
+    (λ h. decides-capacities p js (h .1)))
+    (λ h. decides-rows p js (h .0 .1)))
+  where
+    Parts : Type 0
+    Parts = (((Each Numbered js × Distinct (numbers js)) × Each (Placed p) js) × KeepsCapacities p js) × KeepsRows p js
+
+    whole : Parts → Agreeing p js
+    whole h = record { numbered = h .0 .0 .0 .0; distinct = h .0 .0 .0 .1; placed = h .0 .0 .1; capacities = h .0 .1; rows = h .1 }
+
+    parts : Agreeing p js → Parts
+    parts h = ((((h .numbered, h .distinct), h .placed), h .capacities), h .rows)
