@@ -1,6 +1,12 @@
 -- What holds of each entry of a list, when the list is put together, loses an entry, or has another in its place.
+use Prim.Native.Nat.{ℕ, _≤_}
+use native.Mathlib.Nat.{le-refl}
+use native.Mathlib.Omega.{arith}
+use mathlib.Core.Logic.{_⊎_, inl, inr}
+use mathlib.Core.Path.{_≡_, refl, ap}
 use mathlib.Core.List.{List, [], _∷_, _++_}
 use Rattle.model.specs.Numbers.{Each}
+use Rattle.model.proofs.Decide.{decides-le, decided}
 
 module _ {A : Type 0} (P : A → Type 0) where
   pub each-append : (xs ys : List A) → Each P (xs ++ ys) → Each P xs × Each P ys
@@ -19,3 +25,48 @@ module _ {A : Type 0} (P : A → Type 0) where
 
   pub each-moved : (xs : List A) (y z : A) (ys : List A) → P z → Each P (xs ++ y ∷ ys) → Each P (xs ++ z ∷ ys)
   each-moved xs y z ys k h = let parts = each-append xs (y ∷ ys) h in append-each xs (z ∷ ys) (parts .0) (k, parts .1 .1)
+
+  pub each-all : ((x : A) → P x) → (xs : List A) → Each P xs
+  each-all h [] = tt
+  each-all h (x ∷ xs) = (h x, each-all h xs)
+
+pub each-map : {A : Type 0} (P Q : A → Type 0) → ((x : A) → P x → Q x) → (xs : List A) → Each P xs → Each Q xs
+each-map P Q f [] h = tt
+each-map P Q f (x ∷ xs) h = (f x (h .0), each-map P Q f xs (h .1))
+
+pub each-both : {A : Type 0} (P Q : A → Type 0) (xs : List A) → Each P xs → Each Q xs → Each (λ (x : A). P x × Q x) xs
+each-both P Q [] h k = tt
+each-both P Q (x ∷ xs) h k = ((h .0, k .0), each-both P Q xs (h .1) (k .1))
+
+-- an entry of the list at which a number is least
+pub record Least {A : Type 0} (g : A → ℕ) (all : List A) : Type 0 where
+  pub before : List A
+  pub entry : A
+  pub after : List A
+  pub whole : all ≡ before ++ entry ∷ after
+  pub least : Each (λ (x : A). g entry ≤ g x) all
+
+pub least-entry : {A : Type 0} (g : A → ℕ) (x : A) (xs : List A) → Least g (x ∷ xs)
+least-entry g x [] = record { before = []; entry = x; after = []; whole = refl; least = (le-refl (g x), tt) }
+least-entry {A} g x (y ∷ ys) = step (least-entry g y ys)
+  where
+    step : Least g (y ∷ ys) → Least g (x ∷ y ∷ ys)
+    step l = choose (decided (decides-le (g x) (g (l .entry))))
+      where
+        choose : (g x ≤ g (l .entry)) ⊎ (¬ (g x ≤ g (l .entry))) → Least g (x ∷ y ∷ ys)
+        choose (inl low) =
+            record {
+              before = [];
+              entry = x;
+              after = y ∷ ys;
+              whole = refl;
+              least = (le-refl (g x), each-map (λ (z : A). g (l .entry) ≤ g z) (λ (z : A). g x ≤ g z) (λ z h. omega arith) (y ∷ ys) (l .least))
+            }
+        choose (inr high) =
+            record {
+              before = x ∷ l .before;
+              entry = l .entry;
+              after = l .after;
+              whole = ap (λ (zs : List A). x ∷ zs) (l .whole);
+              least = (omega arith, l .least)
+            }

@@ -28,13 +28,13 @@ sum-zero zero e = refl
 sum-zero (suc n) {g} e = omega (arith, sum-zero n {g = g} (λ i h. e i (omega arith)), e (suc n) (omega arith))
 
 -- a sum with one place that counts
-pub sum-single : (n : ℕ) (g : ℕ → ℕ) (a : ℕ) → InRange a n → ((i : ℕ) → i ≢ a → g i ≡ 0) → sumTo n g ≡ g a
+pub sum-single : (n : ℕ) (g : ℕ → ℕ) (a : ℕ) → InRange a n → ((i : ℕ) → InRange i n → i ≢ a → g i ≡ 0) → sumTo n g ≡ g a
 sum-single zero g a h e = absurd (omega arith)
-sum-single (suc n) g a h e = step (λ k. sum-single n g a k e) (decided (decides-eq (suc n) a))
+sum-single (suc n) g a h e = step (λ k. sum-single n g a k (λ i r. e i (omega arith))) (decided (decides-eq (suc n) a))
   where
     step : (InRange a n → sumTo n g ≡ g a) → (suc n ≡ a) ⊎ (suc n ≢ a) → sumTo n g + g (suc n) ≡ g a
-    step below (inl top) = omega (arith, sum-zero n {g = g} (λ i k. e i (λ same. omega arith)), ap g top)
-    step below (inr other) = omega (arith, below (omega arith), e (suc n) other)
+    step below (inl top) = omega (arith, sum-zero n {g = g} (λ i k. e i (omega arith) (λ same. omega arith)), ap g top)
+    step below (inr other) = omega (arith, below (omega arith), e (suc n) (omega arith) other)
 
 jobs-at-append : (xs ys : List Job) (t k : ℕ) → jobsAt (xs ++ ys) t k ≡ jobsAt xs t k + jobsAt ys t k
 jobs-at-append [] ys t k = omega arith
@@ -63,11 +63,11 @@ module _ (p : Plan) (f : ℕ → ℕ → ℕ) where
       part : ℕ → ℕ → ℕ
       part t k = f t k * (cond (isAt j t k) 1 0 + 0)
 
-      other-type : (t : ℕ) → t ≢ j .kind → sumTo (lengthOf p t) (part t) ≡ 0
-      other-type t n = sum-zero (lengthOf p t) (λ k r. rw (ne-eqb (j .kind) t (λ e. n (sym e))) (omega arith))
+      other-type : (t : ℕ) → InRange t (p .types) → t ≢ j .kind → sumTo (lengthOf p t) (part t) ≡ 0
+      other-type t r n = sum-zero (lengthOf p t) (λ k s. rw (ne-eqb (j .kind) t (λ e. n (sym e))) (omega arith))
 
-      other-stage : (k : ℕ) → k ≢ j .stage → part (j .kind) k ≡ 0
-      other-stage k n = rw (eq-eqb (j .kind) (j .kind) refl, ne-eqb (j .stage) k (λ e. n (sym e))) (omega arith)
+      other-stage : (k : ℕ) → InRange k (lengthOf p (j .kind)) → k ≢ j .stage → part (j .kind) k ≡ 0
+      other-stage k r n = rw (eq-eqb (j .kind) (j .kind) refl, ne-eqb (j .stage) k (λ e. n (sym e))) (omega arith)
 
       here : part (j .kind) (j .stage) ≡ f (j .kind) (j .stage)
       here = rw (eq-eqb (j .kind) (j .kind) refl, eq-eqb (j .stage) (j .stage) refl) (omega arith)
@@ -104,3 +104,11 @@ module _ (f : ℕ → ℕ → ℕ) where
 
   pub over-jobs-moved : (xs ys : List Job) (i j : Job) → overJobs f (xs ++ j ∷ ys) + f (i .kind) (i .stage) ≡ overJobs f (xs ++ i ∷ ys) + f (j .kind) (j .stage)
   over-jobs-moved xs ys i j = omega (arith, over-jobs-removed xs ys i, over-jobs-removed xs ys j)
+
+  pub over-jobs-zero : (js : List Job) → Each (λ (j : Job). f (j .kind) (j .stage) ≡ 0) js → overJobs f js ≡ 0
+  over-jobs-zero [] h = refl
+  over-jobs-zero (j ∷ js) h = omega (arith, h .0, over-jobs-zero js (h .1))
+
+  pub over-jobs-mono : (g : ℕ → ℕ → ℕ) (js : List Job) → Each (λ (j : Job). f (j .kind) (j .stage) ≤ g (j .kind) (j .stage)) js → overJobs f js ≤ overJobs g js
+  over-jobs-mono g [] h = omega arith
+  over-jobs-mono g (j ∷ js) h = omega (arith, h .0, over-jobs-mono g js (h .1))
