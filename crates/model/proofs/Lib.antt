@@ -1,2 +1,3 @@
 -- The laws of the model. Read in this order.
 pub mod Decide
+pub mod Soundness
