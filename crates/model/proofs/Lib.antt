@@ -1,3 +1,4 @@
 -- The laws of the model. Read in this order.
 pub mod Decide
 pub mod Soundness
+pub mod Upstream
