@@ -83,23 +83,24 @@ decides-eq a b = go (eqb a b) refl
 pub decides-range : (i n : ℕ) → Decides (InRange i n) (inRange i n)
 decides-range i n = decides-and (decides-le 1 i) (decides-le i n)
 
+at-or-below : (n i : ℕ) → InRange i (suc n) → InRange i n ⊎ (suc n ≡ i)
+at-or-below n i h = go (leb i n) refl
+  where
+    go : (b : Bool) → leb i n ≡ b → InRange i n ⊎ (suc n ≡ i)
+    go true e = inl (h .0, leb-true i n e)
+    go false e = inr (omega (arith, leb-false i n e, h .1))
+
+-- what holds at each of 1 to n, and at n + 1
+pub extend : (P : ℕ → Type 0) (n : ℕ) → ((i : ℕ) → InRange i n → P i) → P (suc n) → (i : ℕ) → InRange i (suc n) → P i
+extend P n below top i h = ⊎-elim (below i) (λ (e : suc n ≡ i). subst P e top) (at-or-below n i h)
+
 -- over the numbers 1 to n
 module _ (P : ℕ → Type 0) (f : ℕ → Bool) where
-  at-or-below : (n i : ℕ) → InRange i (suc n) → InRange i n ⊎ (suc n ≡ i)
-  at-or-below n i h = go (leb i n) refl
-    where
-      go : (b : Bool) → leb i n ≡ b → InRange i n ⊎ (suc n ≡ i)
-      go true e = inl (h .0, leb-true i n e)
-      go false e = inr (omega (arith, leb-false i n e, h .1))
-
   pub decides-all : (n : ℕ) → ((i : ℕ) → InRange i n → Decides (P i) (f i)) → Decides ((i : ℕ) → InRange i n → P i) (allTo n f)
   decides-all zero d = holding (λ i h. absurd (omega arith))
   decides-all (suc n) d =
-      decides-iff up down (decides-and (decides-all n (λ i h. d i (omega arith))) (d (suc n) (omega arith)))
+      decides-iff (λ both. extend P n (both .0) (both .1)) down (decides-and (decides-all n (λ i h. d i (omega arith))) (d (suc n) (omega arith)))
     where
-      up : ((i : ℕ) → InRange i n → P i) × P (suc n) → (i : ℕ) → InRange i (suc n) → P i
-      up both i h = ⊎-elim (both .0 i) (λ (e : suc n ≡ i). subst P e (both .1)) (at-or-below n i h)
-
       down : ((i : ℕ) → InRange i (suc n) → P i) → ((i : ℕ) → InRange i n → P i) × P (suc n)
       down g = (λ i h. g i (omega arith), g (suc n) (omega arith))
 
@@ -121,7 +122,7 @@ module _ (P : ℕ → Type 0) (f : ℕ → Bool) where
   searched (suc n) d = step (searched n (λ i h. d i (omega arith)))
     where
       top : {b : Bool} → Decides (P (suc n)) b → ((i : ℕ) → InRange i n → P i) → ((cond b 0 (suc n) ≡ 0) × ((i : ℕ) → InRange i (suc n) → P i)) ⊎ Lowest (suc n) P (cond b 0 (suc n))
-      top (holding h) all = inl (refl, λ i k. ⊎-elim (all i) (λ (e : suc n ≡ i). subst P e h) (at-or-below n i k))
+      top (holding h) all = inl (refl, extend P n all h)
       top (failing h) all = inr (record { within = omega arith; fails = h; below = λ i low high. all i (omega arith) })
 
       Found : ℕ → Type 0

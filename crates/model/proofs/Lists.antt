@@ -60,7 +60,7 @@ least-entry {A} g x (y ∷ ys) = step (least-entry g y ys)
               entry = x;
               after = y ∷ ys;
               whole = refl;
-              least = (le-refl (g x), each-map (λ (z : A). g (l .entry) ≤ g z) (λ (z : A). g x ≤ g z) (λ z h. omega arith) (y ∷ ys) (l .least))
+              least = (le-refl (g x), each-map (λ (z : A). g (l .entry) ≤ g z) (λ (z : A). g x ≤ g z) (λ z h. omega arith) (y ∷ ys) (l .least));
             }
         choose (inr high) =
             record {
@@ -68,5 +68,5 @@ least-entry {A} g x (y ∷ ys) = step (least-entry g y ys)
               entry = l .entry;
               after = l .after;
               whole = ap (λ (zs : List A). x ∷ zs) (l .whole);
-              least = (omega arith, l .least)
+              least = (omega arith, l .least);
             }

@@ -4,7 +4,7 @@ use Prim.Native.Nat.{ℕ, zero, suc, _+_, _*_, _≤_, _<_}
 use native.Mathlib.Omega.{arith}
 use mathlib.Core.Bool.{Bool, true, false, cond, _&&_}
 use mathlib.Core.List.{List, [], _∷_, _++_}
-use mathlib.Core.Logic.{_≢_, _⊎_, inl, inr}
+use mathlib.Core.Logic.{_≢_}
 use mathlib.Core.Path.{_≡_, refl, sym, ap, _∙_}
 use lib.Dec.{eqb}
 use borrow.Author.Tests.{eq-eqb, ne-eqb}
@@ -13,7 +13,7 @@ use Rattle.model.specs.Plan.{lengthOf}
 use Rattle.model.specs.Jobs.{isAt, jobsAt, overStages, overJobs, Placed}
 use Rattle.model.specs.declared.Plan.{Plan}
 use Rattle.model.specs.declared.Job.{Job}
-use Rattle.model.proofs.Decide.{decides-eq, decided}
+use Rattle.model.proofs.Decide.{Decides, decides-eq, decides-iff, extend}
 
 pub sum-cong : (n : ℕ) {g h : ℕ → ℕ} → ((i : ℕ) → g i ≡ h i) → sumTo n g ≡ sumTo n h
 sum-cong zero e = refl
@@ -23,18 +23,41 @@ sum-add : (n : ℕ) (g h : ℕ → ℕ) → sumTo n (λ (i : ℕ). g i + h i) �
 sum-add zero g h = omega arith
 sum-add (suc n) g h = omega (arith, sum-add n g h)
 
-pub sum-zero : (n : ℕ) {g : ℕ → ℕ} → ((i : ℕ) → InRange i n → g i ≡ 0) → sumTo n g ≡ 0
-sum-zero zero e = refl
-sum-zero (suc n) {g} e = omega (arith, sum-zero n {g = g} (λ i h. e i (omega arith)), e (suc n) (omega arith))
+-- a sum is 0 where each term is, and 1 where one term is 1 and the others are 0
+module _ (f : ℕ → ℕ) where
+  pub sum-zero : (n : ℕ) → ((i : ℕ) → InRange i n → f i ≡ 0) → sumTo n f ≡ 0
+  sum-zero zero h = refl
+  sum-zero (suc n) h = omega (arith, sum-zero n (λ i k. h i (omega arith)), h (suc n) (omega arith))
 
--- a sum with one place that counts
-pub sum-single : (n : ℕ) (g : ℕ → ℕ) (a : ℕ) → InRange a n → ((i : ℕ) → InRange i n → i ≢ a → g i ≡ 0) → sumTo n g ≡ g a
-sum-single zero g a h e = absurd (omega arith)
-sum-single (suc n) g a h e = step (λ k. sum-single n g a k (λ i r. e i (omega arith))) (decided (decides-eq (suc n) a))
-  where
-    step : (InRange a n → sumTo n g ≡ g a) → (suc n ≡ a) ⊎ (suc n ≢ a) → sumTo n g + g (suc n) ≡ g a
-    step below (inl top) = omega (arith, sum-zero n {g = g} (λ i k. e i (omega arith) (λ same. omega arith)), ap g top)
-    step below (inr other) = omega (arith, below (omega arith), e (suc n) (omega arith) other)
+  zero-terms : (n : ℕ) → sumTo n f ≡ 0 → (i : ℕ) → InRange i n → f i ≡ 0
+  zero-terms zero e = λ i h. absurd (omega arith)
+  zero-terms (suc n) e = extend (λ i. f i ≡ 0) n (zero-terms n (omega arith)) (omega arith)
+
+  abbrev pub ZeroButAt : ℕ → ℕ → Type 0
+  ZeroButAt r n = (i : ℕ) → InRange i n → i ≢ r → f i ≡ 0
+
+  pub sum-single : (n r : ℕ) → InRange r n → ZeroButAt r n → sumTo n f ≡ f r
+  sum-single zero = λ r h others. absurd (omega arith)
+  sum-single (suc n) =
+      extend (λ r. ZeroButAt r (suc n) → sumTo (suc n) f ≡ f r) n
+      (λ r h others. omega (arith, sum-single n r h (λ i k. others i (omega arith)), others (suc n) (omega arith) (omega arith)))
+      (λ others. omega (arith, sum-zero n (λ i k. others i (omega arith) (omega arith))))
+
+  abbrev pub Single : ℕ → Type 0
+  Single n = (r : ℕ) × InRange r n × (f r ≡ 1) × ZeroButAt r n
+
+  single-term : (n : ℕ) → sumTo n f ≡ 1 → Single n
+  single-term zero e = absurd (omega arith)
+  single-term (suc n) e = go (f (suc n)) refl (single-term n)
+    where
+      go : (m : ℕ) → f (suc n) ≡ m → (sumTo n f ≡ 1 → Single n) → Single (suc n)
+      go zero top below =
+          let s = below (omega arith) in
+          (s .0, omega (arith, s .1), s .2, extend (λ i. i ≢ s .0 → f i ≡ 0) n (s .3) (λ _. top))
+      go (suc m) top below = (suc n, omega arith, omega arith, λ i h other. zero-terms n (omega arith) i (omega arith))
+
+  pub decides-single : (n : ℕ) → Decides (Single n) (eqb (sumTo n f) 1)
+  decides-single n = decides-iff (single-term n) (λ s. sum-single n (s .0) (s .1) (s .3) ∙ s .2) (decides-eq (sumTo n f) 1)
 
 jobs-at-append : (xs ys : List Job) (t k : ℕ) → jobsAt (xs ++ ys) t k ≡ jobsAt xs t k + jobsAt ys t k
 jobs-at-append [] ys t k = omega arith
@@ -56,15 +79,15 @@ module _ (p : Plan) (f : ℕ → ℕ → ℕ) where
   pub over-stages-one : (j : Job) → Placed p j → overStages p f (j ∷ []) ≡ f (j .kind) (j .stage)
   unfolding overStages
   over-stages-one j h =
-      sum-single (p .types) (λ (t : ℕ). sumTo (lengthOf p t) (part t)) (j .kind) (h .0) other-type
-      ∙ sum-single (lengthOf p (j .kind)) (part (j .kind)) (j .stage) (h .1) other-stage
+      sum-single (λ (t : ℕ). sumTo (lengthOf p t) (part t)) (p .types) (j .kind) (h .0) other-type
+      ∙ sum-single (part (j .kind)) (lengthOf p (j .kind)) (j .stage) (h .1) other-stage
       ∙ here
     where
       part : ℕ → ℕ → ℕ
       part t k = f t k * (cond (isAt j t k) 1 0 + 0)
 
       other-type : (t : ℕ) → InRange t (p .types) → t ≢ j .kind → sumTo (lengthOf p t) (part t) ≡ 0
-      other-type t r n = sum-zero (lengthOf p t) (λ k s. rw (ne-eqb (j .kind) t (λ e. n (sym e))) (omega arith))
+      other-type t r n = sum-zero (part t) (lengthOf p t) (λ k s. rw (ne-eqb (j .kind) t (λ e. n (sym e))) (omega arith))
 
       other-stage : (k : ℕ) → InRange k (lengthOf p (j .kind)) → k ≢ j .stage → part (j .kind) k ≡ 0
       other-stage k r n = rw (eq-eqb (j .kind) (j .kind) refl, ne-eqb (j .stage) k (λ e. n (sym e))) (omega arith)
@@ -74,7 +97,7 @@ module _ (p : Plan) (f : ℕ → ℕ → ℕ) where
 
   over-stages-none : overStages p f [] ≡ 0
   unfolding overStages
-  over-stages-none = sum-zero (p .types) (λ t r. sum-zero (lengthOf p t) (λ k s. omega arith))
+  over-stages-none = sum-zero _ (p .types) (λ t r. sum-zero _ (lengthOf p t) (λ k s. omega arith))
 
   -- the sum over stages is the sum over jobs
   pub over-stages-jobs : (js : List Job) → Each (Placed p) js → overStages p f js ≡ overJobs f js

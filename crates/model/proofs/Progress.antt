@@ -1,0 +1,200 @@
+-- Under the upstream rule a list of jobs that keeps the rows always has a move: of all jobs take one whose resource has the
+-- lowest rank. A row that its advance makes grow belongs to a resource of lower rank, so nobody was counted in it.
+use Prim.Native.Nat.{ℕ, zero, suc, _+_, _*_, _≤_, _<_}
+use native.Mathlib.Nat.{le-refl}
+use native.Mathlib.Omega.{arith}
+use mathlib.Core.Bool.{Bool, true, false}
+use mathlib.Core.List.{List, [], _∷_, _++_}
+use mathlib.Core.Logic.{_≢_, _⊎_, inl, inr, ⊎-elim}
+use mathlib.Core.Path.{_≡_, refl, sym, ap, subst, _∙_}
+use Rattle.model.specs.Numbers.{InRange, sumTo, Each}
+use Rattle.model.specs.Plan.{capacityOf, rankOf, boundOf, lengthOf, IsStage, demandOf, weightOf, Demands}
+use Rattle.model.specs.Jobs.{overStages, overJobs, unitsHeld, rowSum, KeepsCapacities, KeepsRows, advancedJob, Placed, Agreeing}
+use Rattle.model.specs.Upstream.{RankedUpTo, UpstreamOf, OneUnit, UpstreamRule}
+use Rattle.model.specs.declared.Plan.{Plan}
+use Rattle.model.specs.declared.Job.{Job}
+use Rattle.model.proofs.Decide.{Decides, decided, decides-eq, decides-le}
+use Rattle.model.proofs.Lists.{each-at, each-moved, each-map, each-both, Least, least-entry}
+use Rattle.model.proofs.Upstream.{decides-upstream}
+use Rattle.model.proofs.Sums.{sum-single, over-stages-jobs, over-stages-moved, over-stages-removed, over-jobs-zero, over-jobs-mono}
+
+-- a list without one of its jobs keeps what the whole list keeps
+module _ (p : Plan) (xs ys : List Job) (j : Job) (placed : Placed p j) where
+  pub removed-keeps-capacities : KeepsCapacities p (xs ++ j ∷ ys) → KeepsCapacities p (xs ++ ys)
+  removed-keeps-capacities h r range = omega (arith, h r range, over-stages-removed p (demandOf p r) xs ys j placed)
+
+  pub removed-keeps-rows : KeepsRows p (xs ++ j ∷ ys) → KeepsRows p (xs ++ ys)
+  removed-keeps-rows h w range = omega (arith, h w range, over-stages-removed p (weightOf p w) xs ys j placed)
+
+-- the rank of the resource that a stage demands, where it demands one unit of one
+heldRank : Plan → ℕ → ℕ → ℕ
+heldRank p t k = sumTo (p .resources) (λ (r : ℕ). demandOf p r t k * rankOf p r)
+
+module _ (p : Plan) (rule : UpstreamRule p) where
+  module _ (t k : ℕ) (stage : IsStage p t k) where
+    unit : OneUnit p t k
+    unit = rule .one-units t (stage .0) k (stage .1)
+
+    held-rank : heldRank p t k ≡ rankOf p (unit .resource)
+    unfolding heldRank
+    held-rank =
+        sum-single (λ (r : ℕ). demandOf p r t k * rankOf p r) (p .resources) (unit .resource) (unit .within)
+        (λ r range other. rw (unit .others r range other) (omega arith))
+        ∙ rw (unit .one) (omega arith)
+
+    demanded : (r : ℕ) → InRange r (p .resources) → Demands p t k r → heldRank p t k ≡ rankOf p r
+    demanded r range d = step (decided (decides-eq r (unit .resource)))
+      where
+        step : (r ≡ unit .resource) ⊎ (r ≢ unit .resource) → heldRank p t k ≡ rankOf p r
+        step (inl same) = held-rank ∙ ap (rankOf p) (sym same)
+        step (inr other) = absurd (omega (arith, unit .others r range other, d))
+
+    -- who is counted upstream of a resource holds a rank at most its rank
+    upstream-rank : (r : ℕ) → InRange r (p .resources) → UpstreamOf p r t k → heldRank p t k ≤ rankOf p r
+    upstream-rank r range u = step (decided (decides-eq (u .q) k))
+      where
+        step : (u .q ≡ k) ⊎ (u .q ≢ k) → heldRank p t k ≤ rankOf p r
+        step (inl here) = omega (arith, demanded r range (subst (λ (q : ℕ). Demands p t q r) here (u .demands)))
+        step (inr later) =
+            let low = u .between k (le-refl k) (omega (arith, u .from)) in
+            omega (arith, demanded (low .0) (low .1) (low .2), low .3)
+
+    -- a stretch can be lengthened by a stage whose rank is low enough
+    lengthened : (r : ℕ) → UpstreamOf p r t (k + 1) → heldRank p t k ≤ rankOf p r → UpstreamOf p r t k
+    lengthened r u low =
+        record { q = u .q; from = omega (arith, u .from); within = u .within; demands = u .demands; between = stretch }
+      where
+        first : RankedUpTo p r t k
+        first = (unit .resource, unit .within, omega (arith, unit .one), omega (arith, held-rank))
+
+        stretch : (i : ℕ) → k ≤ i → i < u .q → RankedUpTo p r t i
+        stretch i from below = step (decided (decides-eq k i))
+          where
+            step : (k ≡ i) ⊎ (k ≢ i) → RankedUpTo p r t i
+            step (inl here) = subst (λ (m : ℕ). RankedUpTo p r t m) here first
+            step (inr later) = u .between i (omega arith) below
+
+    -- a row weighs 1 upstream of its resource and 0 elsewhere
+    weight-cases : (r : ℕ) → InRange r (p .resources) → (UpstreamOf p r t k × (weightOf p r t k ≡ 1)) ⊎ ((¬ UpstreamOf p r t k) × (weightOf p r t k ≡ 0))
+    weight-cases r range = step (decided (decides-upstream p r t k (stage .1 .0)))
+      where
+        row : (UpstreamOf p r t k → weightOf p r t k ≡ 1) × ((¬ UpstreamOf p r t k) → weightOf p r t k ≡ 0)
+        row = rule .rows r (omega (arith, rule .as-many-rows)) t k stage
+
+        step : UpstreamOf p r t k ⊎ (¬ UpstreamOf p r t k) → (UpstreamOf p r t k × (weightOf p r t k ≡ 1)) ⊎ ((¬ UpstreamOf p r t k) × (weightOf p r t k ≡ 0))
+        step (inl u) = inl (u, row .0 u)
+        step (inr n) = inr (n, row .1 n)
+
+    -- who holds a resource stands upstream of it
+    demand-weight : (r : ℕ) → InRange r (p .resources) → demandOf p r t k ≤ weightOf p r t k
+    demand-weight r range = step (decided (decides-eq r (unit .resource))) (weight-cases r range)
+      where
+        here : r ≡ unit .resource → UpstreamOf p r t k
+        here same =
+            record {
+              q = k;
+              from = le-refl k;
+              within = stage .1 .1;
+              demands = omega (arith, unit .one, ap (λ (i : ℕ). demandOf p i t k) same);
+              between = λ i from below. absurd (omega arith);
+            }
+
+        step : (r ≡ unit .resource) ⊎ (r ≢ unit .resource) → (UpstreamOf p r t k × (weightOf p r t k ≡ 1)) ⊎ ((¬ UpstreamOf p r t k) × (weightOf p r t k ≡ 0)) → demandOf p r t k ≤ weightOf p r t k
+        step (inl same) (inl w) = omega (arith, w .1, unit .one, ap (λ (i : ℕ). demandOf p i t k) same)
+        step (inl same) (inr w) = absurd (w .0 (here same))
+        step (inr other) w = omega (arith, unit .others r range other)
+
+  -- the capacities follow from the rows
+  pub rows-keep-capacities : (js : List Job) → Each (Placed p) js → KeepsRows p js → KeepsCapacities p js
+  rows-keep-capacities js placed rows r range =
+      let row : InRange r (p .rows) = omega (arith, rule .as-many-rows) in
+      omega (
+        arith,
+        rows r row,
+        rule .bounds r row,
+        over-stages-jobs p (demandOf p r) js placed,
+        over-stages-jobs p (weightOf p r) js placed,
+        over-jobs-mono (demandOf p r) (weightOf p r) js
+            (each-map (Placed p) (λ (j : Job). demandOf p r (j .kind) (j .stage) ≤ weightOf p r (j .kind) (j .stage)) (λ j h. demand-weight (j .kind) (j .stage) h r range) js placed),
+      )
+
+  abbrev rankHeldBy : Job → ℕ
+  rankHeldBy j = heldRank p (j .kind) (j .stage)
+
+  -- the job of lowest rank keeps every row as it advances
+  module _ (xs ys : List Job) (j : Job) (placed : Each (Placed p) (xs ++ j ∷ ys)) (rows : KeepsRows p (xs ++ j ∷ ys)) (least : Each (λ (i : Job). rankHeldBy j ≤ rankHeldBy i) (xs ++ j ∷ ys)) (next : j .stage < lengthOf p (j .kind)) where
+    here : Placed p j
+    here = each-at (Placed p) xs j ys placed
+
+    there : Placed p (advancedJob j)
+    there = (here .0, omega arith)
+
+    -- nobody is counted in the row of a resource below the lowest rank held
+    uncounted : (r : ℕ) → InRange r (p .resources) → rankOf p r < rankHeldBy j → rowSum p r (xs ++ j ∷ ys) ≡ 0
+    uncounted r range low =
+        over-stages-jobs p (weightOf p r) (xs ++ j ∷ ys) placed
+        ∙ over-jobs-zero (weightOf p r) (xs ++ j ∷ ys)
+        (each-map (λ (i : Job). Placed p i × (rankHeldBy j ≤ rankHeldBy i)) (λ (i : Job). weightOf p r (i .kind) (i .stage) ≡ 0) none (xs ++ j ∷ ys)
+        (each-both (Placed p) (λ (i : Job). rankHeldBy j ≤ rankHeldBy i) (xs ++ j ∷ ys) placed least))
+      where
+        none : (i : Job) → Placed p i × (rankHeldBy j ≤ rankHeldBy i) → weightOf p r (i .kind) (i .stage) ≡ 0
+        none i h =
+            ⊎-elim (λ counted. absurd (omega (arith, upstream-rank (i .kind) (i .stage) (h .0) r range (counted .0), h .1))) (λ free. free .1)
+            (weight-cases (i .kind) (i .stage) (h .0) r range)
+
+    advance-keeps-rows : KeepsRows p (xs ++ advancedJob j ∷ ys)
+    advance-keeps-rows r range = step (weight-cases (j .kind) (j .stage) here r range′) (weight-cases (j .kind) (j .stage + 1) there r range′)
+      where
+        range′ : InRange r (p .resources)
+        range′ = omega (arith, rule .as-many-rows)
+
+        moved : rowSum p r (xs ++ advancedJob j ∷ ys) + weightOf p r (j .kind) (j .stage) ≡ rowSum p r (xs ++ j ∷ ys) + weightOf p r (j .kind) (j .stage + 1)
+        moved = over-stages-moved p (weightOf p r) xs ys j (advancedJob j) here there
+
+        Cases : ℕ → Type 0
+        Cases k = (UpstreamOf p r (j .kind) k × (weightOf p r (j .kind) k ≡ 1)) ⊎ ((¬ UpstreamOf p r (j .kind) k) × (weightOf p r (j .kind) k ≡ 0))
+
+        step : Cases (j .stage) → Cases (j .stage + 1) → rowSum p r (xs ++ advancedJob j ∷ ys) ≤ boundOf p r
+        step old (inr new) = omega (arith, moved, rows r range, new .1)
+        step (inl old) (inl new) = omega (arith, moved, rows r range, old .1, new .1)
+        step (inr old) (inl new) =
+            let above : ¬ (rankHeldBy j ≤ rankOf p r) = λ low. old .0 (lengthened (j .kind) (j .stage) here r (new .0) low) in
+            omega (arith, moved, uncounted r range′ (omega arith), old .1, new .1, rule .bounds r range)
+
+  -- a job whose advance, if it has a next stage, keeps every capacity and every row
+  pub record Movable (js : List Job) : Type 0 where
+    pub before : List Job
+    pub job : Job
+    pub after : List Job
+    pub whole : js ≡ before ++ job ∷ after
+    pub capacities : job .stage < lengthOf p (job .kind) → KeepsCapacities p (before ++ advancedJob job ∷ after)
+    pub rows : job .stage < lengthOf p (job .kind) → KeepsRows p (before ++ advancedJob job ∷ after)
+
+  pub progress : (js : List Job) → js ≢ [] → Each (Placed p) js → KeepsRows p js → Movable js
+  progress [] some placed rows = absurd (some refl)
+  progress (x ∷ js) some placed rows = movable (least-entry rankHeldBy x js)
+    where
+      movable : Least rankHeldBy (x ∷ js) → Movable (x ∷ js)
+      movable l =
+          record {
+            before = l .before;
+            job = l .entry;
+            after = l .after;
+            whole = l .whole;
+            capacities = λ next. rows-keep-capacities moved (each-moved (Placed p) (l .before) (l .entry) (advancedJob (l .entry)) (l .after) (there-of next) placed′) (kept next);
+            rows = kept;
+          }
+        where
+          moved : List Job
+          moved = l .before ++ advancedJob (l .entry) ∷ l .after
+
+          placed′ : Each (Placed p) (l .before ++ l .entry ∷ l .after)
+          placed′ = subst (Each (Placed p)) (l .whole) placed
+
+          kept : l .entry .stage < lengthOf p (l .entry .kind) → KeepsRows p moved
+          kept next =
+              advance-keeps-rows (l .before) (l .after) (l .entry) placed′ (subst (KeepsRows p) (l .whole) rows)
+              (subst (Each (λ (i : Job). rankHeldBy (l .entry) ≤ rankHeldBy i)) (l .whole) (l .least)) next
+
+          there-of : l .entry .stage < lengthOf p (l .entry .kind) → Placed p (advancedJob (l .entry))
+          there-of next = (each-at (Placed p) (l .before) (l .entry) (l .after) placed′ .0, omega arith)
