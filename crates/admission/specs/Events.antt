@@ -2,6 +2,7 @@
 use Prim.Native.Nat.{ℕ, _+_, _≤_, _<_}
 use mathlib.Core.Bool.{Bool, true, false, not, cond}
 use mathlib.Core.List.{List, [], _∷_, _++_}
+use mathlib.Core.Logic.{_≢_, _↔_}
 use mathlib.Core.Path.{_≡_}
 use lib.ListN.{length}
 use lib.Dec.{ltb, eqb}
@@ -141,6 +142,14 @@ tableAfter p t e = cond (isAdmitted (answer p t e)) (tableOf (after (jobsOf t) e
 
 abbrev pub outcome : Plan → Table → Event → Outcome
 outcome p t e = record { answer = answer p t e; table = tableAfter p t e }
+
+-- demand 2 for one event: it is admitted exactly when it is allowed, the table is then the one that the model names and
+-- agrees with the plan, and otherwise the table is unchanged
+pub record Judged (p : Plan) (t : Table) (e : Event) : Type 0 where
+  pub exact : (answer p t e ≡ Admitted) ↔ Allowed p (jobsOf t) e
+  pub named : (a : Allowed p (jobsOf t) e) → tableAfter p t e ≡ tableOf (a .next)
+  pub agrees : Agrees p (tableAfter p t e)
+  pub refused : answer p t e ≢ Admitted → tableAfter p t e ≡ t
 
 -- the paper's number and place of each answer
 abbrev pub answerNumber : Answer → ℕ
