@@ -52,10 +52,10 @@ module _ (p : Plan) (sound : Sound p) (js : List Job) (agreeing : Agreeing p js)
     parts : (P : Job → Type 0) → Each P js → Each P (a .before ++ a .job ∷ a .after)
     parts P h = subst (Each P) (a .whole) h
 
-    placed-job : Placed p (a .job)
+    pub placed-job : Placed p (a .job)
     placed-job = each-at (Placed p) (a .before) (a .job) (a .after) (parts (Placed p) (agreeing .placed))
 
-    names : Found n js a
+    pub names : Found n js a
     names = found a (agreeing .distinct)
 
     placed-advanced : HasNext p (a .job) → Each (Placed p) (advanced n js)
@@ -92,7 +92,7 @@ module _ (p : Plan) (sound : Sound p) (js : List Job) (agreeing : Agreeing p js)
       kept-answers p (unloaded n js) (placed-unloaded n a)
 
   -- where its own questions are met an event leads to the jobs that the model names, which agree with the plan
-  own-named : (e : Event) → AllHold (ownConditions p js e) → Named p js e (after js e)
+  pub own-named : (e : Event) → AllHold (ownConditions p js e) → Named p js e (after js e)
   own-named (Load n t) h = refl
   own-named (Advance n) h =
       let a = h .1 .0 in
@@ -117,7 +117,7 @@ module _ (p : Plan) (sound : Sound p) (js : List Job) (agreeing : Agreeing p js)
       rw (names n a .unload)
       (omega (arith, length-append (a .before) (a .after), length-append (a .before) (a .job ∷ a .after), ap length (a .whole)))
 
-  own-agreeing : (e : Event) → AllHold (ownConditions p js e) → Agreeing p (after js e)
+  pub own-agreeing : (e : Event) → AllHold (ownConditions p js e) → Agreeing p (after js e)
   own-agreeing (Load n t) h =
       record {
         numbered = append-each Numbered js (loadedJob n t ∷ []) (agreeing .numbered) (h .0, tt);
@@ -184,7 +184,7 @@ unfolding answer
 answer-first-failure p t e = first-failure isAdmitted Admitted (event-answers p t e)
 
 -- an answer is the acceptance or not
-admitted-or-not : (a : Answer) → (a ≡ Admitted) ⊎ (isAdmitted a ≡ false)
+pub admitted-or-not : (a : Answer) → (a ≡ Admitted) ⊎ (isAdmitted a ≡ false)
 admitted-or-not Admitted = inl refl
 admitted-or-not UnsoundPlan = inr refl
 admitted-or-not Disagreement = inr refl

@@ -9,10 +9,11 @@ use mathlib.Core.Logic.{_≢_}
 use Rattle.model.specs.Numbers.{Each}
 use Rattle.model.specs.Plan.{stagesLeft}
 use Rattle.model.specs.Jobs.{overJobs}
-use Rattle.model.specs.Soundness.{sound}
+use Rattle.model.specs.Soundness.{Sound, sound}
+use Rattle.model.specs.Upstream.{UpstreamRule}
 use Rattle.model.specs.declared.Plan.{Plan}
 use Rattle.model.specs.declared.Job.{Job}
-use Rattle.admission.specs.Table.{jobsOf, agrees}
+use Rattle.admission.specs.Table.{jobsOf, emptyTable, Agrees, agrees}
 use Rattle.admission.specs.Events.{isLast, answer, isAdmitted, tableAfter}
 use Rattle.admission.specs.declared.Table.{Table}
 use Rattle.admission.specs.declared.Event.{Event}
@@ -48,7 +49,11 @@ pub data Moves (p : Plan) : Table → ℕ → Table → Type 0 where
 -- the same, computed: the move of the earliest of these jobs for which it is admitted
 abbrev pub earliest : Plan → Table → List Job → Option Event
 earliest p t [] = none
-earliest p t (j ∷ js) = elim (isAdmitted (answer p t (moveOf p j))) [ true ↦ some (moveOf p j) | false ↦ earliest p t js ]
+earliest p t (j ∷ js) = let later = earliest p t js in cond (isAdmitted (answer p t (moveOf p j))) (some (moveOf p j)) later
+
+abbrev pub isEmpty : List Job → Bool
+isEmpty [] = true
+isEmpty (j ∷ js) = false
 
 abbrev pub stopped : End → Table → Drained
 stopped end t = record { end = end; moves = 0; table = t }
@@ -56,17 +61,40 @@ stopped end t = record { end = end; moves = 0; table = t }
 abbrev pub oneMore : Drained → Drained
 oneMore d = record { end = d .end; moves = suc (d .moves); table = d .table }
 
--- no job left; is there budget; is some job's move admitted
+-- stopped where there is no move, and else what follows the move
+abbrev pub moved : Table → (Event → Drained) → Option Event → Drained
+moved t further none = stopped NoMove t
+moved t further (some e) = oneMore (further e)
+
+-- is no job left; is there budget; is some job's move admitted
 unfoldable pub drainFrom : Plan → ℕ → Table → Drained
-drainFrom p zero t = elim (jobsOf t) [ [] ↦ stopped Emptied t | j ∷ js ↦ stopped OutOfBudget t ]
+drainFrom p zero t = cond (isEmpty (jobsOf t)) (stopped Emptied t) (stopped OutOfBudget t)
 drainFrom p (suc budget) t =
-    elim (jobsOf t) [
-      | [] ↦ stopped Emptied t
-      | j ∷ js ↦ elim (earliest p t (jobsOf t)) [ none ↦ stopped NoMove t | some e ↦ oneMore (drainFrom p budget (tableAfter p t e)) ]
-    ]
+    cond (isEmpty (jobsOf t)) (stopped Emptied t) (moved t (λ (e : Event). drainFrom p budget (tableAfter p t e)) (earliest p t (jobsOf t)))
 
 unfoldable pub drain : Plan → Table → ℕ → Drained
 drain p t budget = cond (sound p) (cond (agrees p t) (drainFrom p budget t) (stopped Disagreement t)) (stopped UnsoundPlan t)
+
+-- what each end says: the first question that failed, and where the drain stood
+abbrev pub Ended : Plan → Table → ℕ → Drained → End → Type 0
+Ended p t budget d UnsoundPlan = (¬ Sound p) × (d .moves ≡ 0) × (d .table ≡ t)
+Ended p t budget d Disagreement = Sound p × (¬ Agrees p t) × (d .moves ≡ 0) × (d .table ≡ t)
+Ended p t budget d Emptied = Sound p × Agrees p t × (d .moves ≤ budget) × (d .table ≡ emptyTable)
+Ended p t budget d OutOfBudget = Sound p × Agrees p t × (d .moves ≡ budget) × (jobsOf (d .table) ≢ [])
+Ended p t budget d NoMove =
+    Sound p
+    × Agrees p t
+    × (d .moves < budget)
+    × (jobsOf (d .table) ≢ [])
+    × Each (λ (j : Job). answer p (d .table) (moveOf p j) ≢ Admitted) (jobsOf (d .table))
+
+-- the Drain section of document 01: each move is the earliest admitted one, the end is right, the count is the fall in
+-- stages still before the jobs, and under the upstream rule a budget of as many moves empties the cell
+pub record DrainRule (p : Plan) (t : Table) (budget : ℕ) (d : Drained) : Type 0 where
+  pub moves : Moves p t (d .moves) (d .table)
+  pub ended : Ended p t budget d (d .end)
+  pub count : d .moves + stagesBefore p (jobsOf (d .table)) ≡ stagesBefore p (jobsOf t)
+  pub empties : UpstreamRule p → Agrees p t → stagesBefore p (jobsOf t) ≤ budget → (d .end ≡ Emptied) × (d .table ≡ emptyTable)
 
 -- the paper's number of each end
 abbrev pub endNumber : End → ℕ

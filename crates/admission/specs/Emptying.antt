@@ -10,19 +10,13 @@ use Rattle.model.specs.Upstream.{check}
 use Rattle.model.specs.declared.Plan.{Plan}
 use Rattle.model.specs.declared.Check.the-variants.{Meets}
 use Rattle.admission.specs.Table.{tableOf, emptyTable}
-use Rattle.admission.specs.Events.{answer}
+use Rattle.admission.specs.Events.{IsMove, answer}
 use Rattle.admission.specs.Drain.{stagesBefore}
 use Rattle.admission.specs.Ledger.{Ledger, emptyLedger}
 use Rattle.admission.specs.Run.{State, run, answers, admittedCount}
 use Rattle.admission.specs.declared.Event.{Event}
-use Rattle.admission.specs.declared.Event.the-variants.{Load, Advance, Unload}
 use Rattle.admission.specs.declared.Table.{Table}
 use Rattle.admission.specs.declared.Answer.the-variants.{Admitted}
-
-abbrev pub IsMove : Event → Type 0
-IsMove (Load n t) = ⊥
-IsMove (Advance n) = Unit {0}
-IsMove (Unload n) = Unit {0}
 
 -- some advance or unload is admitted
 pub record SomeMove (p : Plan) (t : Table) : Type 0 where

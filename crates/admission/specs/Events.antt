@@ -22,6 +22,12 @@ use Rattle.admission.specs.declared.Answer.{Answer}
 use Rattle.admission.specs.declared.Answer.the-variants.{Admitted, UnsoundPlan, Disagreement, BadNumber, WrongActivity, UnknownType, Full, WrongStage, OverCapacity, RowBroken}
 use Rattle.admission.specs.declared.Outcome.{Outcome}
 
+-- a move is an advance or an unload
+abbrev pub IsMove : Event → Type 0
+IsMove (Load n t) = ⊥
+IsMove (Advance n) = Unit {0}
+IsMove (Unload n) = Unit {0}
+
 -- a job has a next stage, and a job is at its last stage
 abbrev pub HasNext : Plan → Job → Type 0
 HasNext p j = j .stage < lengthOf p (j .kind)

@@ -1,0 +1,148 @@
+-- The drain's law: by induction on the budget each turn makes the earliest admitted move, so the moves form a chain; the
+-- count and the emptying follow from the chain.
+use Prim.Native.Nat.{ℕ, zero, suc, _+_, _≤_, _<_}
+use native.Mathlib.Omega.{arith}
+use mathlib.Core.Bool.{Bool, true, false, cond, false≢true}
+use mathlib.Core.List.{List, [], _∷_, _++_}
+use mathlib.Core.Logic.{_≢_, _⊎_, inl, inr, ⊎-elim}
+use mathlib.Core.Option.{Option, none, some}
+use mathlib.Core.Path.{_≡_, refl, sym, ap, subst, subst⁻¹, _∙_}
+use Rattle.model.specs.Numbers.{Each}
+use Rattle.model.specs.Plan.{stagesLeft}
+use Rattle.model.specs.Jobs.{overJobs}
+use Rattle.model.specs.Soundness.{Sound, sound}
+use Rattle.model.specs.Upstream.{UpstreamRule}
+use Rattle.model.specs.declared.Plan.{Plan}
+use Rattle.model.specs.declared.Job.{Job}
+use Rattle.model.proofs.Decide.{Decides, holding, failing, holds, fails}
+use Rattle.model.proofs.Lists.{each-at}
+use Rattle.model.proofs.Soundness.{decides-sound}
+use Rattle.admission.specs.Table.{jobsOf, tableOf, emptyTable, Agrees, agrees}
+use Rattle.admission.specs.Events.{IsMove, answer, isAdmitted, tableAfter}
+use Rattle.admission.specs.Drain.{stagesBefore, moveOf, Earliest, Moves, stay, move, earliest, isEmpty, stopped, oneMore, moved, drainFrom, drain, Ended, DrainRule}
+use Rattle.admission.specs.declared.Table.{Table}
+use Rattle.admission.specs.declared.Event.{Event}
+use Rattle.admission.specs.declared.Answer.the-variants.{Admitted}
+use Rattle.admission.specs.declared.End.{End}
+use Rattle.admission.specs.declared.End.the-variants.{Emptied, UnsoundPlan, Disagreement, OutOfBudget, NoMove}
+use Rattle.admission.specs.declared.Drained.{Drained}
+use Rattle.admission.proofs.Tables.{table-of-jobs, decides-agrees}
+use Rattle.admission.proofs.Events.{admitted-or-not, agrees-after}
+use Rattle.admission.proofs.Moves.{move-count, job-moves, OpenJob, open-job}
+
+-- what the search over a list of jobs finds: no admitted move, or the first
+abbrev Searched : Plan → Table → List Job → Option Event → Type 0
+Searched p t js none = Each (λ (j : Job). answer p t (moveOf p j) ≢ Admitted) js
+Searched p t js (some e) =
+    (before : List Job) × (job : Job) × (later : List Job)
+    × (js ≡ before ++ job ∷ later)
+    × (e ≡ moveOf p job)
+    × (answer p t e ≡ Admitted)
+    × Each (λ (j : Job). answer p t (moveOf p j) ≢ Admitted) before
+
+earliest-searched : (p : Plan) (t : Table) (js : List Job) → Searched p t js (earliest p t js)
+earliest-searched p t [] = tt
+earliest-searched p t (j ∷ js) = step (admitted-or-not (answer p t (moveOf p j))) (earliest-searched p t js)
+  where
+    refused : isAdmitted (answer p t (moveOf p j)) ≡ false → answer p t (moveOf p j) ≢ Admitted
+    refused h e = false≢true (sym h ∙ ap isAdmitted e)
+
+    later : (o : Option Event) → answer p t (moveOf p j) ≢ Admitted → Searched p t js o → Searched p t (j ∷ js) o
+    later none not s = (not, s)
+    later (some e) not s = (j ∷ s .0, s .1, s .2, ap (λ (is : List Job). j ∷ is) (s .3), s .4, s .5, (not, s .6))
+
+    step : (answer p t (moveOf p j) ≡ Admitted) ⊎ (isAdmitted (answer p t (moveOf p j)) ≡ false) → Searched p t js (earliest p t js) → Searched p t (j ∷ js) (earliest p t (j ∷ js))
+    step (inl h) s = rw (ap isAdmitted h) ([], j, js, refl, refl, h, tt)
+    step (inr h) s = rw h (later (earliest p t js) (refused h) s)
+
+empty-or-not : (js : List Job) → ((js ≡ []) × (isEmpty js ≡ true)) ⊎ ((js ≢ []) × (isEmpty js ≡ false))
+empty-or-not [] = inl (refl, refl)
+empty-or-not (j ∷ js) = inr (λ e. false≢true (ap isEmpty e), refl)
+
+module _ (p : Plan) (sound : Sound p) where
+  -- a drain from an agreeing table
+  record Turned (t : Table) (budget : ℕ) (d : Drained) : Type 0 where
+    chain : Moves p t (d .moves) (d .table)
+    agrees : Agrees p (d .table)
+    ended : Ended p t budget d (d .end)
+
+  emptied-table : (t : Table) → Agrees p t → jobsOf t ≡ [] → t ≡ emptyTable
+  emptied-table t agrees e = table-of-jobs p t agrees ∙ ap tableOf e
+
+  turned-empty : (t : Table) (budget : ℕ) → Agrees p t → jobsOf t ≡ [] → Turned t budget (stopped Emptied t)
+  turned-empty t budget agrees e =
+      record { chain = stay; agrees = agrees; ended = (sound, agrees, omega arith, emptied-table t agrees e) }
+
+  -- one more move before the same end
+  longer : (t u : Table) (budget : ℕ) (d : Drained) (end : End) → Agrees p t → Ended p u budget d end → Agrees p u → Ended p t (suc budget) (oneMore d) end
+  longer t u budget d Emptied agrees h k = (sound, agrees, omega (arith, h .2), h .3)
+  longer t u budget d UnsoundPlan agrees h k = absurd (h .0 sound)
+  longer t u budget d Disagreement agrees h k = absurd (h .1 k)
+  longer t u budget d OutOfBudget agrees h k = (sound, agrees, ap suc (h .2), h .3)
+  longer t u budget d NoMove agrees h k = (sound, agrees, omega (arith, h .2), h .3, h .4)
+
+  turned : (budget : ℕ) (t : Table) → Agrees p t → Turned t budget (drainFrom p budget t)
+  unfolding drainFrom
+  turned zero t agrees = step (empty-or-not (jobsOf t))
+    where
+      step : ((jobsOf t ≡ []) × (isEmpty (jobsOf t) ≡ true)) ⊎ ((jobsOf t ≢ []) × (isEmpty (jobsOf t) ≡ false)) → Turned t 0 (cond (isEmpty (jobsOf t)) (stopped Emptied t) (stopped OutOfBudget t))
+      step (inl h) = rw (h .1) (turned-empty t 0 agrees (h .0))
+      step (inr h) = rw (h .1) (record { chain = stay; agrees = agrees; ended = (sound, agrees, refl, h .0) })
+  turned (suc budget) t agrees = step (empty-or-not (jobsOf t)) (λ e. turned budget (tableAfter p t e) (agrees-after p t e sound agrees))
+    where
+      further : Event → Drained
+      further e = drainFrom p budget (tableAfter p t e)
+
+      choose : (o : Option Event) → jobsOf t ≢ [] → Searched p t (jobsOf t) o → ((e : Event) → Turned (tableAfter p t e) budget (further e)) → Turned t (suc budget) (moved t further o)
+      choose none left s rest = record { chain = stay; agrees = agrees; ended = (sound, agrees, omega arith, left, s) }
+      choose (some e) left s rest =
+          let found : Earliest p t e = record { before = s .0; job = s .1; later = s .2; whole = s .3; move = s .4; admitted = s .5; earlier = s .6 } in
+          record {
+            chain = move e found (rest e .chain);
+            agrees = rest e .agrees;
+            ended = longer t (tableAfter p t e) budget (further e) (further e .end) agrees (rest e .ended) (agrees-after p t e sound agrees);
+          }
+
+      step : ((jobsOf t ≡ []) × (isEmpty (jobsOf t) ≡ true)) ⊎ ((jobsOf t ≢ []) × (isEmpty (jobsOf t) ≡ false)) → ((e : Event) → Turned (tableAfter p t e) budget (further e)) → Turned t (suc budget) (cond (isEmpty (jobsOf t)) (stopped Emptied t) (moved t further (earliest p t (jobsOf t))))
+      step (inl h) rest = rw (h .1) (turned-empty t (suc budget) agrees (h .0))
+      step (inr h) rest = rw (h .1) (choose (earliest p t (jobsOf t)) (h .0) (earliest-searched p t (jobsOf t)) rest)
+
+-- the count of a chain of moves is the fall in stages still before the jobs
+pub chain-count : (p : Plan) {t u : Table} {n : ℕ} → Moves p t n u → n + stagesBefore p (jobsOf u) ≡ stagesBefore p (jobsOf t)
+chain-count p stay = omega arith
+chain-count p (move {t} {u} {n} e found rest) =
+    omega (arith, chain-count p rest, move-count p t e (subst⁻¹ IsMove (found .move) (job-moves p (found .job))) (found .admitted))
+
+-- under the upstream rule a drain stops with jobs only for want of budget
+ended-empty : (p : Plan) (t : Table) (budget : ℕ) (d : Drained) → UpstreamRule p → Agrees p (d .table) → stagesBefore p (jobsOf t) ≤ budget → d .moves + stagesBefore p (jobsOf (d .table)) ≡ stagesBefore p (jobsOf t) → (end : End) → Agrees p t → Ended p t budget d end → (end ≡ Emptied) × (d .table ≡ emptyTable)
+ended-empty p t budget d rule agrees enough count Emptied first h = (refl, h .3)
+ended-empty p t budget d rule agrees enough count UnsoundPlan first h = absurd (h .0 (rule .sound))
+ended-empty p t budget d rule agrees enough count Disagreement first h = absurd (h .1 first)
+ended-empty p t budget d rule agrees enough count OutOfBudget first h = absurd (remain (jobsOf (d .table)) refl)
+  where
+    remain : (js : List Job) → jobsOf (d .table) ≡ js → ⊥
+    remain [] e = h .3 e
+    remain (j ∷ js) e = omega (arith, ap (stagesBefore p) e, h .2, count, enough)
+ended-empty p t budget d rule agrees enough count NoMove first h =
+    let o = open-job p (d .table) rule agrees (h .3) in
+    absurd (each-at (λ (j : Job). answer p (d .table) (moveOf p j) ≢ Admitted) (o .before) (o .job) (o .later) (subst (Each (λ (j : Job). answer p (d .table) (moveOf p j) ≢ Admitted)) (o .whole) (h .4)) (o .admitted))
+
+pub drain-rule : (p : Plan) (t : Table) (budget : ℕ) → DrainRule p t budget (drain p t budget)
+unfolding drain
+drain-rule p t budget = step (decides-sound p) (decides-agrees p t)
+  where
+    unmoved : (end : End) → Ended p t budget (stopped end t) end → (UpstreamRule p → Agrees p t → ⊥) → DrainRule p t budget (stopped end t)
+    unmoved end h never = record { moves = stay; ended = h; count = omega arith; empties = λ rule k enough. absurd (never rule k) }
+
+    step : {a b : Bool} → Decides (Sound p) a → Decides (Agrees p t) b → DrainRule p t budget (cond a (cond b (drainFrom p budget t) (stopped Disagreement t)) (stopped UnsoundPlan t))
+    step (failing h) d = unmoved UnsoundPlan (h, refl, refl) (λ rule k. h (rule .sound))
+    step (holding h) (failing k) = unmoved Disagreement (h, k, refl, refl) (λ rule a. k a)
+    step (holding h) (holding k) =
+        let r = turned p h budget t k in
+        let count = chain-count p (r .chain) in
+        record {
+          moves = r .chain;
+          ended = r .ended;
+          count = count;
+          empties = λ rule a enough. ended-empty p t budget (drainFrom p budget t) rule (r .agrees) enough count (drainFrom p budget t .end) a (r .ended);
+        }
