@@ -3,3 +3,5 @@ pub mod Tables
 pub mod Events
 pub mod Moves
 pub mod Drain
+pub mod Ledger
+pub mod Emptying

@@ -102,7 +102,7 @@ found {n} {js} a d =
     }
 
 -- a number is active where some job of the list has it
-none-active : {n : ℕ} → ¬ Active n []
+pub none-active : {n : ℕ} → ¬ Active n []
 none-active a = let e = ap length (a .whole) in omega (arith, simp length-append at e)
 
 active-cases : {n : ℕ} {j : Job} {js : List Job} → Active n (j ∷ js) → (j .number ≡ n) ⊎ Active n js

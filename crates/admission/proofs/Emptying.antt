@@ -1,0 +1,122 @@
+-- The emptying rule: the table and the ledger keep step through every list, an admitted move is one stage fewer, and the
+-- upstream rule leaves a move while a job remains.
+use Prim.Native.Nat.{ℕ, zero, suc, _+_, _≤_, _<_}
+use native.Mathlib.Omega.{arith}
+use mathlib.Core.Bool.{Bool, true, false, cond, false≢true}
+use mathlib.Core.List.{List, [], _∷_, _++_}
+use mathlib.Core.Logic.{_≢_, _⊎_, inl, inr, ⊎-elim, _↔_}
+use mathlib.Core.Path.{_≡_, refl, sym, ap, subst, _∙_}
+use Rattle.model.specs.Numbers.{Each}
+use Rattle.model.specs.Plan.{demandOf, weightOf}
+use Rattle.model.specs.Jobs.{Active, Agreeing}
+use Rattle.model.specs.Soundness.{Sound}
+use Rattle.model.specs.Upstream.{UpstreamRule, check}
+use Rattle.model.specs.declared.Plan.{Plan}
+use Rattle.model.specs.declared.Job.{Job}
+use Rattle.model.specs.declared.Check.the-variants.{Meets}
+use Rattle.model.proofs.Decide.{AllHold}
+use Rattle.model.proofs.Sums.{over-stages-jobs}
+use Rattle.model.proofs.Jobs.{none-active}
+use Rattle.model.proofs.Upstream.{check-exact}
+use Rattle.admission.specs.Table.{jobsOf, tableOf, emptyTable, Agrees}
+use Rattle.admission.specs.Events.{IsMove, ownConditions, answer, isAdmitted, tableAfter}
+use Rattle.admission.specs.Drain.{stagesBefore, moveOf, isEmpty}
+use Rattle.admission.specs.Run.{State, run, tableAfterAll, answers, admittedCount}
+use Rattle.admission.specs.Emptying.{SomeMove, start, Rule, EmptyingRule}
+use Rattle.admission.specs.declared.Table.{Table}
+use Rattle.admission.specs.declared.Event.{Event}
+use Rattle.admission.specs.declared.Event.the-variants.{Load, Advance, Unload}
+use Rattle.admission.specs.declared.Answer.the-variants.{Admitted}
+use Rattle.admission.proofs.Tables.{agreeing-table}
+use Rattle.admission.proofs.Events.{admitted-or-not, admitted-holds, table-refused}
+use Rattle.admission.proofs.Moves.{move-count, job-moves, OpenJob, open-job}
+use Rattle.admission.proofs.Ledger.{InStep, jobs-in-step, stepped, stays-in-step}
+
+-- no job agrees with any plan
+none-agreeing : (p : Plan) → Agreeing p []
+none-agreeing p =
+    record {
+      numbered = tt;
+      distinct = tt;
+      placed = tt;
+      capacities = λ r h. omega (arith, over-stages-jobs p (demandOf p r) [] tt);
+      rows = λ w h. omega (arith, over-stages-jobs p (weightOf p w) [] tt);
+    }
+
+pub start-in-step : (p : Plan) → InStep p start
+start-in-step p =
+    record {
+      same = refl;
+      agrees = agreeing-table p [] (omega arith) (none-agreeing p);
+      balance = λ r. omega (arith, over-stages-jobs p (demandOf p r) [] tt);
+    }
+
+pub run-in-step : (p : Plan) → Sound p → (s : State) (es : List Event) → InStep p s → InStep p (run p s es)
+run-in-step p sound s [] h = h
+run-in-step p sound s (e ∷ es) h = run-in-step p sound (stepped p s e) es (stays-in-step p sound s e h)
+
+-- the admitted moves of a list are the fall in stages still before the jobs
+step-count : (p : Plan) (t : Table) (e : Event) → IsMove e → cond (isAdmitted (answer p t e)) 1 0 + stagesBefore p (jobsOf (tableAfter p t e)) ≡ stagesBefore p (jobsOf t)
+step-count p t e move =
+    ⊎-elim (λ (h : answer p t e ≡ Admitted). rw (ap isAdmitted h) (move-count p t e move h))
+    (λ (h : isAdmitted (answer p t e) ≡ false). rw (h, table-refused p t e h) (omega arith)) (admitted-or-not (answer p t e))
+
+run-count : (p : Plan) (t : Table) (es : List Event) → Each IsMove es → admittedCount (answers p t es) + stagesBefore p (jobsOf (tableAfterAll p t es)) ≡ stagesBefore p (jobsOf t)
+run-count p t [] moves = omega arith
+run-count p t (e ∷ es) moves = omega (arith, run-count p (tableAfter p t e) es (moves .1), step-count p t e (moves .0))
+
+-- an admitted move has its job
+move-active : (p : Plan) (js : List Job) (e : Event) → IsMove e → AllHold (ownConditions p js e) → js ≢ []
+move-active p js (Load n t) move h e = move
+move-active p js (Advance n) move h e = none-active (subst (Active n) e (h .1 .0))
+move-active p js (Unload n) move h e = none-active (subst (Active n) e (h .1 .0))
+
+some-move : (p : Plan) → UpstreamRule p → (t : Table) → Agrees p t → SomeMove p t ↔ (jobsOf t ≢ [])
+some-move p rule t agrees = (
+  λ m. move-active p (jobsOf t) (m .event) (m .move) (admitted-holds p t (m .event) (m .admitted) .1 .1),
+  λ left. let o = open-job p t rule agrees left in record { event = moveOf p (o .job); move = job-moves p (o .job); admitted = o .admitted },
+)
+
+pub emptying-rule : EmptyingRule
+emptying-rule p passed events moves are-moves =
+    record {
+      same = last .same;
+      units = λ r h. last .balance r;
+      capacity = λ r h. agreeing .capacities r h;
+      movable = subst (λ (js : List Job). SomeMove p (end .table) ↔ (js ≢ [])) jobs (some-move p rule (end .table) (last .agrees));
+      count = count;
+      emptied = emptied;
+    }
+  where
+    rule : UpstreamRule p
+    rule = check-exact p .0 passed
+
+    between : State
+    between = run p start events
+
+    end : State
+    end = run p between moves
+
+    first : InStep p between
+    first = run-in-step p (rule .sound) start events (start-in-step p)
+
+    last : InStep p end
+    last = run-in-step p (rule .sound) between moves first
+
+    jobs : jobsOf (end .table) ≡ end .ledger .jobs
+    jobs = jobs-in-step p end last
+
+    agreeing : Agreeing p (end .ledger .jobs)
+    agreeing = subst (Agreeing p) jobs (last .agrees .jobs)
+
+    count : admittedCount (answers p (between .table) moves) + stagesBefore p (end .ledger .jobs) ≡ stagesBefore p (between .ledger .jobs)
+    count =
+        omega
+        (arith, run-count p (between .table) moves are-moves, ap (stagesBefore p) jobs, ap (stagesBefore p) (jobs-in-step p between first))
+
+    emptied : (¬ SomeMove p (end .table)) → (end .table ≡ emptyTable) × (admittedCount (answers p (between .table) moves) ≡ stagesBefore p (between .ledger .jobs))
+    emptied closed = go (end .ledger .jobs) refl
+      where
+        go : (js : List Job) → end .ledger .jobs ≡ js → (end .table ≡ emptyTable) × (admittedCount (answers p (between .table) moves) ≡ stagesBefore p (between .ledger .jobs))
+        go [] e = (last .same ∙ ap tableOf e, omega (arith, count, ap (stagesBefore p) e))
+        go (j ∷ js) e = absurd (closed (some-move p rule (end .table) (last .agrees) .1 (λ n. false≢true (ap isEmpty (sym e ∙ sym jobs ∙ n)))))

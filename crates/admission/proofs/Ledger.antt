@@ -1,0 +1,112 @@
+-- The ledger keeps step with the table: an admitted event makes the same change to its jobs, and what it takes and gives
+-- back is the change in what the present stages demand.
+use Prim.Native.Nat.{ℕ, _+_, _-_, _≤_, _<_}
+use native.Mathlib.Omega.{arith}
+use mathlib.Core.Bool.{Bool, true, false, cond}
+use mathlib.Core.List.{List, [], _∷_, _++_}
+use mathlib.Core.Logic.{_⊎_, inl, inr, ⊎-elim}
+use mathlib.Core.Path.{_≡_, refl, sym, ap, subst, _∙_}
+use Rattle.model.specs.Numbers.{Each}
+use Rattle.model.specs.Plan.{lengthOf, demandOf}
+use Rattle.model.specs.Jobs.{overStages, unitsHeld, Active, isActive, jobOf, loadedJob, advancedJob, Placed, Agreeing}
+use Rattle.model.specs.Soundness.{Sound}
+use Rattle.model.specs.declared.Plan.{Plan}
+use Rattle.model.specs.declared.Job.{Job}
+use Rattle.model.proofs.Decide.{AllHold, passes}
+use Rattle.model.proofs.Sums.{over-stages-added, over-stages-removed, over-stages-moved}
+use Rattle.model.proofs.Jobs.{decides-active, Found}
+use Rattle.admission.specs.Table.{jobsOf, tableOf, Agrees}
+use Rattle.admission.specs.Events.{HasNext, after, ownConditions, answer, isAdmitted, tableAfter}
+use Rattle.admission.specs.Ledger.{Ledger, demandAt, takes, gives, written, entered}
+use Rattle.admission.specs.Run.{State}
+use Rattle.admission.specs.declared.Table.{Table}
+use Rattle.admission.specs.declared.Event.{Event}
+use Rattle.admission.specs.declared.Event.the-variants.{Load, Advance, Unload}
+use Rattle.admission.specs.declared.Answer.the-variants.{Admitted}
+use Rattle.admission.proofs.Tables.{jobs-of-table}
+use Rattle.admission.proofs.Events.{names, placed-job, admitted-or-not, admitted-holds, table-admitted, table-refused, agrees-after}
+
+-- units taken are units given back plus what the present stages demand
+abbrev pub Balanced : Plan → Ledger → Type 0
+Balanced p l = (r : ℕ) → l .taken r ≡ l .given r + unitsHeld p r (l .jobs)
+
+module _ (p : Plan) (sound : Sound p) (l : Ledger) (agreeing : Agreeing p (l .jobs)) (balanced : Balanced p l) where
+  -- what is written of an event whose questions are met
+  record Written (e : Event) (new : Ledger) : Type 0 where
+    jobs : new .jobs ≡ after (l .jobs) e
+    balance : Balanced p new
+
+  event-written : (e : Event) → AllHold (ownConditions p (l .jobs) e) → Written e (written p l e)
+  event-written (Load n t) h =
+      let stage = sound .lengths t (h .1 .1 .0) in
+      record {
+        jobs = refl;
+        balance = λ r. omega (arith, balanced r, over-stages-added p (demandOf p r) (l .jobs) (loadedJob n t) (h .1 .1 .0, omega arith));
+      }
+  event-written (Advance n) h = rw (passes (decides-active n (l .jobs)) a) (record { jobs = refl; balance = balance })
+    where
+      a : Active n (l .jobs)
+      a = h .1 .0
+
+      found : Found n (l .jobs) a
+      found = names p sound (l .jobs) agreeing n a
+
+      here : Placed p (a .job)
+      here = placed-job p sound (l .jobs) agreeing n a
+
+      next : HasNext p (a .job)
+      next = subst (HasNext p) (found .job) (h .1 .1 .0)
+
+      balance : (r : ℕ) → l .taken r + takes p (jobOf n (l .jobs)) r ≡ l .given r + gives p (jobOf n (l .jobs)) r + unitsHeld p r (after (l .jobs) (Advance n))
+      balance r =
+          rw (found .advance, found .job)
+          (omega (arith, balanced r, ap (unitsHeld p r) (a .whole), over-stages-moved p (demandOf p r) (a .before) (a .after) (a .job) (advancedJob (a .job)) here (here .0, omega (arith, next))))
+  event-written (Unload n) h = rw (passes (decides-active n (l .jobs)) a) (record { jobs = refl; balance = balance })
+    where
+      a : Active n (l .jobs)
+      a = h .1 .0
+
+      found : Found n (l .jobs) a
+      found = names p sound (l .jobs) agreeing n a
+
+      balance : (r : ℕ) → l .taken r ≡ l .given r + demandAt p (jobOf n (l .jobs)) r + unitsHeld p r (after (l .jobs) (Unload n))
+      balance r =
+          rw (found .unload, found .job)
+          (omega (arith, balanced r, ap (unitsHeld p r) (a .whole), over-stages-removed p (demandOf p r) (a .before) (a .after) (a .job) (placed-job p sound (l .jobs) agreeing n a)))
+
+-- a table and a ledger that keep step
+pub record InStep (p : Plan) (s : State) : Type 0 where
+  pub same : s .table ≡ tableOf (s .ledger .jobs)
+  pub agrees : Agrees p (s .table)
+  pub balance : Balanced p (s .ledger)
+
+pub jobs-in-step : (p : Plan) (s : State) → InStep p s → jobsOf (s .table) ≡ s .ledger .jobs
+jobs-in-step p s h = ap jobsOf (h .same) ∙ jobs-of-table (s .ledger .jobs)
+
+-- the state after one event
+abbrev pub stepped : Plan → State → Event → State
+stepped p s e = record { table = tableAfter p (s .table) e; ledger = entered p (s .ledger) e (answer p (s .table) e) }
+
+pub stays-in-step : (p : Plan) → Sound p → (s : State) (e : Event) → InStep p s → InStep p (stepped p s e)
+unfolding entered
+stays-in-step p sound s e h = ⊎-elim yes not (admitted-or-not (answer p (s .table) e))
+  where
+    same-jobs : jobsOf (s .table) ≡ s .ledger .jobs
+    same-jobs = jobs-in-step p s h
+
+    agrees : Agrees p (tableAfter p (s .table) e)
+    agrees = agrees-after p (s .table) e sound (h .agrees)
+
+    yes : answer p (s .table) e ≡ Admitted → InStep p (stepped p s e)
+    yes a =
+        let own = subst (λ (js : List Job). AllHold (ownConditions p js e)) same-jobs (admitted-holds p (s .table) e a .1 .1) in
+        let w = event-written p sound (s .ledger) (subst (Agreeing p) same-jobs (h .agrees .jobs)) (h .balance) e own in
+        rw (ap isAdmitted a)
+        (record {
+          same = table-admitted p (s .table) e a ∙ ap tableOf (ap (λ (js : List Job). after js e) same-jobs ∙ sym (w .jobs));
+          agrees = agrees;
+          balance = w .balance;
+        })
+
+    not : isAdmitted (answer p (s .table) e) ≡ false → InStep p (stepped p s e)
+    not n = rw n (record { same = table-refused p (s .table) e n ∙ h .same; agrees = agrees; balance = h .balance })
