@@ -8,7 +8,6 @@ use mathlib.Core.Logic.{_≢_, _⊎_, inl, inr, ⊎-elim}
 use mathlib.Core.Option.{Option, none, some}
 use mathlib.Core.Path.{_≡_, refl, sym, ap, subst, subst⁻¹, _∙_}
 use Rattle.model.specs.Numbers.{Each}
-use Rattle.model.specs.Plan.{stagesLeft}
 use Rattle.model.specs.Jobs.{overJobs}
 use Rattle.model.specs.Soundness.{Sound, sound}
 use Rattle.model.specs.Upstream.{UpstreamRule}
@@ -28,7 +27,7 @@ use Rattle.admission.specs.declared.End.the-variants.{Emptied, UnsoundPl
 use Rattle.admission.specs.declared.Drained.{Drained}
 use Rattle.admission.proofs.Tables.{table-of-jobs, decides-agrees}
 use Rattle.admission.proofs.Events.{admitted-or-not, agrees-after}
-use Rattle.admission.proofs.Moves.{move-count, job-moves, OpenJob, open-job}
+use Rattle.admission.proofs.Moves.{move-count, job-moves, MovableJob, movable-job}
 
 -- what the search over a list of jobs finds: no admitted move, or the first
 abbrev Searched : Plan → Table → List Job → Option Event → Type 0
@@ -124,7 +123,7 @@ ended-empty p t budget d rule agrees enough count OutOfBudget first h = absurd (
     remain [] e = h .3 e
     remain (j ∷ js) e = omega (arith, ap (stagesBefore p) e, h .2, count, enough)
 ended-empty p t budget d rule agrees enough count NoMove first h =
-    let o = open-job p (d .table) rule agrees (h .3) in
+    let o = movable-job p (d .table) rule agrees (h .3) in
     absurd (each-at (λ (j : Job). answer p (d .table) (moveOf p j) ≢ Admitted) (o .before) (o .job) (o .later) (subst (Each (λ (j : Job). answer p (d .table) (moveOf p j) ≢ Admitted)) (o .whole) (h .4)) (o .admitted))
 
 pub drain-rule : (p : Plan) (t : Table) (budget : ℕ) → DrainRule p t budget (drain p t budget)

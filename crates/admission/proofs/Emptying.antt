@@ -1,4 +1,4 @@
--- The emptying rule: the table and the ledger keep step through every list, an admitted move is one stage fewer, and the
+-- The emptying rule: the table and the ledger hold the same jobs through every list, an admitted move is one stage fewer, and the
 -- upstream rule leaves a move while a job remains.
 use Prim.Native.Nat.{ℕ, zero, suc, _+_, _≤_, _<_}
 use native.Mathlib.Omega.{arith}
@@ -22,15 +22,15 @@ use Rattle.admission.specs.Table.{jobsOf, tableOf, emptyTable, Agrees}
 use Rattle.admission.specs.Events.{IsMove, ownConditions, answer, isAdmitted, tableAfter}
 use Rattle.admission.specs.Drain.{stagesBefore, moveOf, isEmpty}
 use Rattle.admission.specs.Run.{State, run, tableAfterAll, answers, admittedCount}
-use Rattle.admission.specs.Emptying.{SomeMove, start, Rule, EmptyingRule}
+use Rattle.admission.specs.Emptying.{SomeMove, start, EmptyingTheorem}
 use Rattle.admission.specs.declared.Table.{Table}
 use Rattle.admission.specs.declared.Event.{Event}
 use Rattle.admission.specs.declared.Event.the-variants.{Load, Advance, Unload}
 use Rattle.admission.specs.declared.Answer.the-variants.{Admitted}
 use Rattle.admission.proofs.Tables.{agreeing-table}
 use Rattle.admission.proofs.Events.{admitted-or-not, admitted-holds, table-refused}
-use Rattle.admission.proofs.Moves.{move-count, job-moves, OpenJob, open-job}
-use Rattle.admission.proofs.Ledger.{InStep, jobs-in-step, stepped, stays-in-step}
+use Rattle.admission.proofs.Moves.{move-count, job-moves, MovableJob, movable-job}
+use Rattle.admission.proofs.Ledger.{Consistent, jobs-of-ledger, stateAfter, stays-consistent}
 
 -- no job agrees with any plan
 none-agreeing : (p : Plan) → Agreeing p []
@@ -43,17 +43,17 @@ none-agreeing p =
       rows = λ w h. omega (arith, over-stages-jobs p (weightOf p w) [] tt);
     }
 
-pub start-in-step : (p : Plan) → InStep p start
-start-in-step p =
+pub start-consistent : (p : Plan) → Consistent p start
+start-consistent p =
     record {
       same = refl;
       agrees = agreeing-table p [] (omega arith) (none-agreeing p);
       balance = λ r. omega (arith, over-stages-jobs p (demandOf p r) [] tt);
     }
 
-pub run-in-step : (p : Plan) → Sound p → (s : State) (es : List Event) → InStep p s → InStep p (run p s es)
-run-in-step p sound s [] h = h
-run-in-step p sound s (e ∷ es) h = run-in-step p sound (stepped p s e) es (stays-in-step p sound s e h)
+pub run-consistent : (p : Plan) → Sound p → (s : State) (es : List Event) → Consistent p s → Consistent p (run p s es)
+run-consistent p sound s [] h = h
+run-consistent p sound s (e ∷ es) h = run-consistent p sound (stateAfter p s e) es (stays-consistent p sound s e h)
 
 -- the admitted moves of a list are the fall in stages still before the jobs
 step-count : (p : Plan) (t : Table) (e : Event) → IsMove e → cond (isAdmitted (answer p t e)) 1 0 + stagesBefore p (jobsOf (tableAfter p t e)) ≡ stagesBefore p (jobsOf t)
@@ -74,11 +74,11 @@ move-active p js (Unload n) move h e = none-active (subst (Active n) e (h .1 .0)
 some-move : (p : Plan) → UpstreamRule p → (t : Table) → Agrees p t → SomeMove p t ↔ (jobsOf t ≢ [])
 some-move p rule t agrees = (
   λ m. move-active p (jobsOf t) (m .event) (m .move) (admitted-holds p t (m .event) (m .admitted) .1 .1),
-  λ left. let o = open-job p t rule agrees left in record { event = moveOf p (o .job); move = job-moves p (o .job); admitted = o .admitted },
+  λ left. let o = movable-job p t rule agrees left in record { event = moveOf p (o .job); move = job-moves p (o .job); admitted = o .admitted },
 )
 
-pub emptying-rule : EmptyingRule
-emptying-rule p passed events moves are-moves =
+pub emptying-theorem : EmptyingTheorem
+emptying-theorem p passed events moves are-moves =
     record {
       same = last .same;
       units = λ r h. last .balance r;
@@ -97,14 +97,14 @@ emptying-rule p passed events moves are-moves =
     end : State
     end = run p between moves
 
-    first : InStep p between
-    first = run-in-step p (rule .sound) start events (start-in-step p)
+    first : Consistent p between
+    first = run-consistent p (rule .sound) start events (start-consistent p)
 
-    last : InStep p end
-    last = run-in-step p (rule .sound) between moves first
+    last : Consistent p end
+    last = run-consistent p (rule .sound) between moves first
 
     jobs : jobsOf (end .table) ≡ end .ledger .jobs
-    jobs = jobs-in-step p end last
+    jobs = jobs-of-ledger p end last
 
     agreeing : Agreeing p (end .ledger .jobs)
     agreeing = subst (Agreeing p) jobs (last .agrees .jobs)
@@ -112,7 +112,7 @@ emptying-rule p passed events moves are-moves =
     count : admittedCount (answers p (between .table) moves) + stagesBefore p (end .ledger .jobs) ≡ stagesBefore p (between .ledger .jobs)
     count =
         omega
-        (arith, run-count p (between .table) moves are-moves, ap (stagesBefore p) jobs, ap (stagesBefore p) (jobs-in-step p between first))
+        (arith, run-count p (between .table) moves are-moves, ap (stagesBefore p) jobs, ap (stagesBefore p) (jobs-of-ledger p between first))
 
     emptied : (¬ SomeMove p (end .table)) → (end .table ≡ emptyTable) × (admittedCount (answers p (between .table) moves) ≡ stagesBefore p (between .ledger .jobs))
     emptied closed = go (end .ledger .jobs) refl

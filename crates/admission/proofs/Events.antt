@@ -21,7 +21,7 @@ use Rattle.model.proofs.Jobs.{distinct-moved, distinct-removed, distinct-added,
 use Rattle.model.proofs.Progress.{removed-keeps-capacities, removed-keeps-rows}
 use Rattle.model.proofs.Soundness.{decides-sound}
 use Rattle.admission.specs.Table.{jobsOf, tableOf, Agrees}
-use Rattle.admission.specs.Events.{HasNext, IsLast, Named, Allowed, WellNamed, after, keptConditions, ownConditions, eventConditions, keptQuestions, ownQuestions, eventQuestions, answer, isAdmitted, tableAfter, Judged, answerNumber}
+use Rattle.admission.specs.Events.{HasNext, IsLast, Named, Allowed, WellNamed, after, keptConditions, ownConditions, eventConditions, keptQuestions, ownQuestions, eventQuestions, answer, isAdmitted, tableAfter, Judged, answerNumbers}
 use Rattle.admission.specs.declared.Table.{Table}
 use Rattle.admission.specs.declared.Event.{Event}
 use Rattle.admission.specs.declared.Event.the-variants.{Load, Advance, Unload}
@@ -234,13 +234,14 @@ judged p t e sound agrees named =
       named = λ a. table-admitted p t e (admits a) ∙ ap tableOf (sym (named-after p sound (jobsOf t) (agrees .jobs) e (a .named)));
       agrees = agrees-after p t e sound agrees;
       refused = λ no. ⊎-elim (λ yes. absurd (no yes)) (table-refused p t e) (admitted-or-not (answer p t e));
+      first = answer-first-failure p t e;
     }
   where
     admits : Allowed p (jobsOf t) e → answer p t e ≡ Admitted
     admits a = holds-admitted p t e (sound, (agrees, allowed-own p sound (jobsOf t) (agrees .jobs) e named a))
 
 -- an unload meets neither 18 nor 19
-pub unload-below-18 : (p : Plan) (t : Table) (n : ℕ) → answerNumber (answer p t (Unload n)) < 18
+pub unload-below-18 : (p : Plan) (t : Table) (n : ℕ) → answerNumbers (answer p t (Unload n)) .0 < 18
 unload-below-18 p t n =
     ⊎-elim (λ no. rw (no .1) (omega arith)) (λ sound.
     ⊎-elim (λ no. rw (no .1) (omega arith)) (λ agrees.

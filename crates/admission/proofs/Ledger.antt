@@ -1,4 +1,4 @@
--- The ledger keeps step with the table: an admitted event makes the same change to its jobs, and what it takes and gives
+-- The ledger holds the jobs of the table: an admitted event makes the same change to its jobs, and what it takes and gives
 -- back is the change in what the present stages demand.
 use Prim.Native.Nat.{ℕ, _+_, _-_, _≤_, _<_}
 use native.Mathlib.Omega.{arith}
@@ -74,30 +74,30 @@ module _ (p : Plan) (sound : Sound p) (l : Ledger) (agreeing : Agreeing p (l .jo
           rw (found .unload, found .job)
           (omega (arith, balanced r, ap (unitsHeld p r) (a .whole), over-stages-removed p (demandOf p r) (a .before) (a .after) (a .job) (placed-job p sound (l .jobs) agreeing n a)))
 
--- a table and a ledger that keep step
-pub record InStep (p : Plan) (s : State) : Type 0 where
+-- a table and a ledger that hold the same jobs, balanced
+pub record Consistent (p : Plan) (s : State) : Type 0 where
   pub same : s .table ≡ tableOf (s .ledger .jobs)
   pub agrees : Agrees p (s .table)
   pub balance : Balanced p (s .ledger)
 
-pub jobs-in-step : (p : Plan) (s : State) → InStep p s → jobsOf (s .table) ≡ s .ledger .jobs
-jobs-in-step p s h = ap jobsOf (h .same) ∙ jobs-of-table (s .ledger .jobs)
+pub jobs-of-ledger : (p : Plan) (s : State) → Consistent p s → jobsOf (s .table) ≡ s .ledger .jobs
+jobs-of-ledger p s h = ap jobsOf (h .same) ∙ jobs-of-table (s .ledger .jobs)
 
 -- the state after one event
-abbrev pub stepped : Plan → State → Event → State
-stepped p s e = record { table = tableAfter p (s .table) e; ledger = entered p (s .ledger) e (answer p (s .table) e) }
+abbrev pub stateAfter : Plan → State → Event → State
+stateAfter p s e = record { table = tableAfter p (s .table) e; ledger = entered p (s .ledger) e (answer p (s .table) e) }
 
-pub stays-in-step : (p : Plan) → Sound p → (s : State) (e : Event) → InStep p s → InStep p (stepped p s e)
+pub stays-consistent : (p : Plan) → Sound p → (s : State) (e : Event) → Consistent p s → Consistent p (stateAfter p s e)
 unfolding entered
-stays-in-step p sound s e h = ⊎-elim yes not (admitted-or-not (answer p (s .table) e))
+stays-consistent p sound s e h = ⊎-elim yes not (admitted-or-not (answer p (s .table) e))
   where
     same-jobs : jobsOf (s .table) ≡ s .ledger .jobs
-    same-jobs = jobs-in-step p s h
+    same-jobs = jobs-of-ledger p s h
 
     agrees : Agrees p (tableAfter p (s .table) e)
     agrees = agrees-after p (s .table) e sound (h .agrees)
 
-    yes : answer p (s .table) e ≡ Admitted → InStep p (stepped p s e)
+    yes : answer p (s .table) e ≡ Admitted → Consistent p (stateAfter p s e)
     yes a =
         let own = subst (λ (js : List Job). AllHold (ownConditions p js e)) same-jobs (admitted-holds p (s .table) e a .1 .1) in
         let w = event-written p sound (s .ledger) (subst (Agreeing p) same-jobs (h .agrees .jobs)) (h .balance) e own in
@@ -108,5 +108,5 @@ stays-in-step p sound s e h = ⊎-elim yes not (admitted-or-not (answer p (s .ta
           balance = w .balance;
         })
 
-    not : isAdmitted (answer p (s .table) e) ≡ false → InStep p (stepped p s e)
+    not : isAdmitted (answer p (s .table) e) ≡ false → Consistent p (stateAfter p s e)
     not n = rw n (record { same = table-refused p (s .table) e n ∙ h .same; agrees = agrees; balance = h .balance })

@@ -9,7 +9,7 @@ use mathlib.Core.Path.{_≡_, refl, sym, ap, subst, subst⁻¹, _∙_}
 use lib.Dec.{eqb}
 use borrow.Author.Tests.{eq-eqb, ne-eqb}
 use Rattle.model.specs.Numbers.{Each}
-use Rattle.model.specs.Plan.{lengthOf, stagesLeft}
+use Rattle.model.specs.Plan.{lengthOf}
 use Rattle.model.specs.Jobs.{overJobs, KeepsCapacities, KeepsRows, Active, advancedJob, Placed, Agreeing}
 use Rattle.model.specs.Soundness.{Sound}
 use Rattle.model.specs.Upstream.{UpstreamRule}
@@ -21,7 +21,7 @@ use Rattle.model.proofs.Sums.{over-jobs-moved, over-jobs-removed}
 use Rattle.model.proofs.Progress.{removed-keeps-capacities, removed-keeps-rows, Movable, progress}
 use Rattle.admission.specs.Table.{jobsOf, tableOf, Agrees}
 use Rattle.admission.specs.Events.{IsMove, Named, after, ownConditions, isLast, answer, tableAfter}
-use Rattle.admission.specs.Drain.{stagesBefore, moveOf}
+use Rattle.admission.specs.Drain.{stagesLeft, stagesBefore, moveOf}
 use Rattle.admission.specs.declared.Table.{Table}
 use Rattle.admission.specs.declared.Event.{Event}
 use Rattle.admission.specs.declared.Event.the-variants.{Load, Advance, Unload}
@@ -57,15 +57,15 @@ job-moves p j = go (isLast p j)
     go false = tt
 
 -- a job of the table whose move is admitted
-pub record OpenJob (p : Plan) (t : Table) : Type 0 where
+pub record MovableJob (p : Plan) (t : Table) : Type 0 where
   pub before : List Job
   pub job : Job
   pub later : List Job
   pub whole : jobsOf t ≡ before ++ job ∷ later
   pub admitted : answer p t (moveOf p job) ≡ Admitted
 
-pub open-job : (p : Plan) (t : Table) → UpstreamRule p → Agrees p t → jobsOf t ≢ [] → OpenJob p t
-open-job p t rule agrees some =
+pub movable-job : (p : Plan) (t : Table) → UpstreamRule p → Agrees p t → jobsOf t ≢ [] → MovableJob p t
+movable-job p t rule agrees some =
     record { before = m .before; job = m .job; later = m .after; whole = m .whole; admitted = move (decided (decides-eq (m .job .stage) (lengthOf p (m .job .kind)))) }
   where
     m : Movable p rule (jobsOf t)

@@ -11,7 +11,8 @@ use Rattle.model.specs.Numbers.{entry, each}
 use Rattle.model.specs.Jobs.{noJob, Agreeing}
 use Rattle.model.specs.declared.Plan.{Plan}
 use Rattle.model.specs.declared.Job.{Job}
-use Rattle.model.proofs.Decide.{Decides, decides-iff, decides-and, decides-le, decides-eq, decides-beyond}
+use Rattle.model.proofs.Decide.{Decides, decides-iff, _and_, decides-le, decides-eq, decides-beyond}
+use Rattle.model.proofs.Lists.{replicated}
 use Rattle.model.proofs.Jobs.{decides-agreeing}
 use Rattle.admission.specs.Table.{jobsOf, tableOf, Agrees, isNoJob, agrees}
 use Rattle.admission.specs.declared.Table.{Table}
@@ -21,11 +22,6 @@ unfolding tableOf
 jobs-of-table js = take-append-seam js (replicate (maxJobs - length js) noJob)
 
 -- a list filled up with an entry holds nothing else beyond its own entries
-replicated : {A : Type 0} (n i : ℕ) (d : A) → getD (replicate n d) i d ≡ d
-replicated zero i d = refl
-replicated (suc n) zero d = refl
-replicated (suc n) (suc i) d = replicated n i d
-
 filled : {A : Type 0} (xs : List A) (n i : ℕ) (d : A) → length xs ≤ i → getD (xs ++ replicate n d) i d ≡ d
 filled [] n i d h = replicated n i d
 filled (x ∷ xs) n zero d h = absurd (omega arith)
@@ -68,13 +64,14 @@ decides-no-job : (j : Job) → Decides (j ≡ noJob) (isNoJob j)
 decides-no-job j =
     decides-iff (λ h. λ i. record { number = h .0 .0 i; kind = h .0 .1 i; stage = h .1 i })
     (λ e. ((ap (λ (j : Job). j .number) e, ap (λ (j : Job). j .kind) e), ap (λ (j : Job). j .stage) e))
-    (decides-and (decides-and (decides-eq (j .number) 0) (decides-eq (j .kind) 0)) (decides-eq (j .stage) 0))
+    (decides-eq (j .number) 0 and decides-eq (j .kind) 0 and decides-eq (j .stage) 0)
 
 pub decides-agrees : (p : Plan) (t : Table) → Decides (Agrees p t) (agrees p t)
 unfolding agrees
 decides-agrees p t =
     decides-iff (λ h. record { places = h .0 .0 .0; few = h .0 .0 .1; zeros = h .0 .1; jobs = h .1 })
     (λ h. (((h .places, h .few), h .zeros), h .jobs))
-    (decides-and
-    (decides-and (decides-and (decides-eq (length (t .jobs)) maxJobs) (decides-le (t .count) maxJobs)) (decides-beyond decides-no-job noJob refl (t .count) (t .jobs)))
-    (decides-agreeing p (jobsOf t)))
+    (decides-eq (length (t .jobs)) maxJobs
+    and decides-le (t .count) maxJobs
+    and decides-beyond decides-no-job noJob refl (t .count) (t .jobs)
+    and decides-agreeing p (jobsOf t))

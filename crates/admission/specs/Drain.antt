@@ -1,13 +1,13 @@
 -- The drain: the earliest loaded job whose move is admitted moves, until the cell is empty, the budget is spent or no
 -- move is admitted.
-use Prim.Native.Nat.{ℕ, zero, suc, _+_, _≤_, _<_}
+use Prim.Native.Nat.{ℕ, zero, suc, _+_, _-_, _≤_, _<_}
 use mathlib.Core.Bool.{Bool, true, false, cond}
 use mathlib.Core.List.{List, [], _∷_, _++_}
 use mathlib.Core.Option.{Option, none, some}
 use mathlib.Core.Path.{_≡_}
 use mathlib.Core.Logic.{_≢_}
 use Rattle.model.specs.Numbers.{Each}
-use Rattle.model.specs.Plan.{stagesLeft}
+use Rattle.model.specs.Plan.{lengthOf}
 use Rattle.model.specs.Jobs.{overJobs}
 use Rattle.model.specs.Soundness.{Sound, sound}
 use Rattle.model.specs.Upstream.{UpstreamRule}
@@ -23,7 +23,10 @@ use Rattle.admission.specs.declared.End.{End}
 use Rattle.admission.specs.declared.End.the-variants.{Emptied, UnsoundPlan, Disagreement, OutOfBudget, NoMove}
 use Rattle.admission.specs.declared.Drained.{Drained}
 
--- the stages still before the jobs, present ones included
+-- the stages still before a job of type t at stage k, the present one included
+abbrev pub stagesLeft : Plan → ℕ → ℕ → ℕ
+stagesLeft p t k = lengthOf p t - k + 1
+
 abbrev pub stagesBefore : Plan → List Job → ℕ
 stagesBefore p js = overJobs (stagesLeft p) js
 

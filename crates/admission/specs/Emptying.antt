@@ -29,7 +29,7 @@ abbrev pub start : State
 start = record { table = emptyTable; ledger = emptyLedger }
 
 -- of the state between the lists and the state at the end, with the moves admitted on the way
-pub record Rule (p : Plan) (between end : State) (moves : ℕ) : Type 0 where
+pub record EmptyingRule (p : Plan) (between end : State) (moves : ℕ) : Type 0 where
   -- a: the table holds the ledger's jobs in its order, and zeros beyond
   pub same : end .table ≡ tableOf (end .ledger .jobs)
   -- b: units taken are units given back plus what the present stages demand, within capacity
@@ -43,7 +43,7 @@ pub record Rule (p : Plan) (between end : State) (moves : ℕ) : Type 0 where
   pub emptied : (¬ SomeMove p (end .table)) → (end .table ≡ emptyTable) × (moves ≡ stagesBefore p (between .ledger .jobs))
 
 -- demand 3: a plan that the check passes, any list of events from the start, any list of moves from there
-abbrev pub EmptyingRule : Type 0
-EmptyingRule =
+abbrev pub EmptyingTheorem : Type 0
+EmptyingTheorem =
     (p : Plan) → check p ≡ Meets → (events moves : List Event) → Each IsMove moves
-    → Rule p (run p start events) (run p (run p start events) moves) (admittedCount (answers p (run p start events .table) moves))
+    → EmptyingRule p (run p start events) (run p (run p start events) moves) (admittedCount (answers p (run p start events .table) moves))

@@ -8,7 +8,7 @@ use lib.ListN.{length}
 use lib.Dec.{ltb, eqb}
 use Rattle.model.specs.Limits.{maxNumber, maxJobs}
 use Rattle.model.specs.Numbers.{InRange, inRange, Lowest}
-use Rattle.model.specs.Questions.{Question, Condition, ask, asks, answerOf}
+use Rattle.model.specs.Questions.{Question, Condition, ask, asks, answerOf, FirstFailure}
 use Rattle.model.specs.Plan.{lengthOf, capacityOf, boundOf}
 use Rattle.model.specs.Jobs.{unitsHeld, rowSum, KeepsCapacities, KeepsRows, Active, isActive, jobOf, advancedJob, loaded, advanced, unloaded, exceeded, broken}
 use Rattle.model.specs.Soundness.{Sound, sound}
@@ -129,18 +129,22 @@ eventQuestions p t e = ask (sound p) UnsoundPlan ∷ ask (agrees p t) Disagreeme
 unfoldable pub answer : Plan → Table → Event → Answer
 answer p t e = answerOf Admitted (eventQuestions p t e)
 
--- admitted (document 01's term) is answered 0
+-- the paper's number and place of each answer
+abbrev pub answerNumbers : Answer → ℕ × ℕ
+answerNumbers Admitted = (0, 0)
+answerNumbers UnsoundPlan = (11, 0)
+answerNumbers Disagreement = (12, 0)
+answerNumbers BadNumber = (13, 0)
+answerNumbers WrongActivity = (14, 0)
+answerNumbers UnknownType = (15, 0)
+answerNumbers Full = (16, 0)
+answerNumbers WrongStage = (17, 0)
+answerNumbers (OverCapacity r) = (18, r)
+answerNumbers (RowBroken w) = (19, w)
+
+-- admitted (document 01's term): answered 0
 abbrev pub isAdmitted : Answer → Bool
-isAdmitted Admitted = true
-isAdmitted UnsoundPlan = false
-isAdmitted Disagreement = false
-isAdmitted BadNumber = false
-isAdmitted WrongActivity = false
-isAdmitted UnknownType = false
-isAdmitted Full = false
-isAdmitted WrongStage = false
-isAdmitted (OverCapacity r) = false
-isAdmitted (RowBroken w) = false
+isAdmitted a = eqb (answerNumbers a .0) 0
 
 -- the table after an event: a refusal hands back the same
 unfoldable pub tableAfter : Plan → Table → Event → Table
@@ -150,34 +154,10 @@ abbrev pub outcome : Plan → Table → Event → Outcome
 outcome p t e = record { answer = answer p t e; table = tableAfter p t e }
 
 -- demand 2 for one event: it is admitted exactly when it is allowed, the table is then the one that the model names and
--- agrees with the plan, and otherwise the table is unchanged
+-- agrees with the plan; otherwise the table is unchanged and the answer names the first question that failed
 pub record Judged (p : Plan) (t : Table) (e : Event) : Type 0 where
   pub exact : (answer p t e ≡ Admitted) ↔ Allowed p (jobsOf t) e
   pub named : (a : Allowed p (jobsOf t) e) → tableAfter p t e ≡ tableOf (a .next)
   pub agrees : Agrees p (tableAfter p t e)
   pub refused : answer p t e ≢ Admitted → tableAfter p t e ≡ t
-
--- the paper's number and place of each answer
-abbrev pub answerNumber : Answer → ℕ
-answerNumber Admitted = 0
-answerNumber UnsoundPlan = 11
-answerNumber Disagreement = 12
-answerNumber BadNumber = 13
-answerNumber WrongActivity = 14
-answerNumber UnknownType = 15
-answerNumber Full = 16
-answerNumber WrongStage = 17
-answerNumber (OverCapacity r) = 18
-answerNumber (RowBroken w) = 19
-
-abbrev pub answerPlace : Answer → ℕ
-answerPlace Admitted = 0
-answerPlace UnsoundPlan = 0
-answerPlace Disagreement = 0
-answerPlace BadNumber = 0
-answerPlace WrongActivity = 0
-answerPlace UnknownType = 0
-answerPlace Full = 0
-answerPlace WrongStage = 0
-answerPlace (OverCapacity r) = r
-answerPlace (RowBroken w) = w
+  pub first : FirstFailure Admitted (eventConditions p t e) (answer p t e)

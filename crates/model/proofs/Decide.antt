@@ -48,15 +48,17 @@ module _ {P : Type 0} where
   decides-iff f g (holding h) = holding (f h)
   decides-iff f g (failing h) = failing (λ q. h (g q))
 
-  pub decides-and : {Q : Type 0} {a b : Bool} → Decides P a → Decides Q b → Decides (P × Q) (a && b)
-  decides-and (holding h) (holding k) = holding (h, k)
-  decides-and (holding h) (failing k) = failing (λ both. k (both .1))
-  decides-and (failing h) d = failing (λ both. h (both .0))
-
   pub decides-or : {Q : Type 0} {a b : Bool} → Decides P a → Decides Q b → Decides (P ⊎ Q) (a || b)
   decides-or (holding h) d = holding (inl h)
   decides-or (failing h) (holding k) = holding (inr k)
   decides-or (failing h) (failing k) = failing (⊎-elim h k)
+
+infixl 40 _and_
+-- nested as `&&` is
+pub _and_ : {P Q : Type 0} {a b : Bool} → Decides P a → Decides Q b → Decides (P × Q) (a && b)
+holding h and holding k = holding (h, k)
+holding h and failing k = failing (λ both. k (both .1))
+failing h and d = failing (λ both. h (both .0))
 
 -- a second test that decides its condition only where the first holds
 pub decides-then : {P Q : Type 0} {a b : Bool} → Decides P a → (P → Decides Q b) → Decides (P × Q) (a && b)
@@ -81,7 +83,7 @@ decides-eq a b = go (eqb a b) refl
     go false e = failing (eqb-false a b e)
 
 pub decides-range : (i n : ℕ) → Decides (InRange i n) (inRange i n)
-decides-range i n = decides-and (decides-le 1 i) (decides-le i n)
+decides-range i n = decides-le 1 i and decides-le i n
 
 at-or-below : (n i : ℕ) → InRange i (suc n) → InRange i n ⊎ (suc n ≡ i)
 at-or-below n i h = go (leb i n) refl
@@ -99,7 +101,7 @@ module _ (P : ℕ → Type 0) (f : ℕ → Bool) where
   pub decides-all : (n : ℕ) → ((i : ℕ) → InRange i n → Decides (P i) (f i)) → Decides ((i : ℕ) → InRange i n → P i) (allTo n f)
   decides-all zero d = holding (λ i h. absurd (omega arith))
   decides-all (suc n) d =
-      decides-iff (λ both. extend P n (both .0) (both .1)) down (decides-and (decides-all n (λ i h. d i (omega arith))) (d (suc n) (omega arith)))
+      decides-iff (λ both. extend P n (both .0) (both .1)) down (decides-all n (λ i h. d i (omega arith)) and d (suc n) (omega arith))
     where
       down : ((i : ℕ) → InRange i (suc n) → P i) → ((i : ℕ) → InRange i n → P i) × P (suc n)
       down g = (λ i h. g i (omega arith), g (suc n) (omega arith))
@@ -151,7 +153,7 @@ module _ (P : ℕ → Type 0) (f : ℕ → Bool) where
 module _ {A : Type 0} {P : A → Type 0} {f : A → Bool} (d : (x : A) → Decides (P x) (f x)) where
   pub decides-each : (xs : List A) → Decides (Each P xs) (each f xs)
   decides-each [] = holding tt
-  decides-each (x ∷ xs) = decides-and (d x) (decides-each xs)
+  decides-each (x ∷ xs) = d x and decides-each xs
 
   -- beyond the first n entries, with an entry z that counts as met where the list ends
   pub decides-beyond : (z : A) → P z → (n : ℕ) (xs : List A) → Decides ((i : ℕ) → n < i → P (entry xs i z)) (each f (drop n xs))
@@ -160,7 +162,7 @@ module _ {A : Type 0} {P : A → Type 0} {f : A → Bool} (d : (x : A) → Decid
       from : (i : ℕ) → 0 < i → P (entry [] i z)
       from zero k = h
       from (suc i) k = h
-  decides-beyond z h zero (x ∷ xs) = decides-iff up down (decides-and (d x) (decides-beyond z h zero xs))
+  decides-beyond z h zero (x ∷ xs) = decides-iff up down (d x and decides-beyond z h zero xs)
     where
       up : P x × ((i : ℕ) → 0 < i → P (entry xs i z)) → (i : ℕ) → 0 < i → P (entry (x ∷ xs) i z)
       up both zero k = h

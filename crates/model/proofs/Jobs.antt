@@ -15,7 +15,7 @@ use Rattle.model.specs.Plan.{capacityOf, boundOf, IsStage, demandOf, wei
 use Rattle.model.specs.Jobs.{noJob, overStages, overJobs, unitsHeld, rowSum, KeepsCapacities, KeepsRows, exceeded, broken, Active, isActive, jobOf, advancedJob, loaded, advanced, unloaded, isNumbered, numbers, Numbered, Placed, Agreeing, distinct, isStage, agreeing}
 use Rattle.model.specs.declared.Plan.{Plan}
 use Rattle.model.specs.declared.Job.{Job}
-use Rattle.model.proofs.Decide.{Decides, holding, failing, holds, decided, decides-iff, decides-and, decides-then, decides-or, decides-not, decides-le, decides-eq, decides-range, decides-each, decides-lowest, lowest-found}
+use Rattle.model.proofs.Decide.{Decides, holding, failing, holds, decided, decides-iff, _and_, decides-then, decides-or, decides-not, decides-le, decides-eq, decides-range, decides-each, decides-lowest, lowest-found}
 use Rattle.model.proofs.Lists.{append-each, each-at, each-removed}
 use Rattle.model.proofs.Sums.{over-stages-jobs}
 
@@ -125,11 +125,11 @@ decides-active n (j ∷ js) =
 -- the tests on a list decide its conditions
 decides-distinct : (ns : List ℕ) → Decides (Distinct ns) (distinct ns)
 decides-distinct [] = holding tt
-decides-distinct (n ∷ ns) = decides-and (decides-each (λ m. decides-not (decides-eq m n)) ns) (decides-distinct ns)
+decides-distinct (n ∷ ns) = decides-each (λ m. decides-not (decides-eq m n)) ns and decides-distinct ns
 
 decides-placed : (p : Plan) (j : Job) → Decides (Placed p j) (isStage p (j .kind) (j .stage))
 unfolding isStage
-decides-placed p j = decides-and (decides-range (j .kind) (p .types)) (decides-range (j .stage) (lengthOf p (j .kind)))
+decides-placed p j = decides-range (j .kind) (p .types) and decides-range (j .stage) (lengthOf p (j .kind))
 
 -- capacities and rows, as one case: the sum over stages is tested by the sum over jobs
 module _ (p : Plan) (js : List Job) (placed : Each (Placed p) js) where
@@ -164,8 +164,7 @@ decides-agreeing p js =
     decides-iff whole parts
     (decides-then
     (decides-then
-    (decides-and (decides-and (decides-each (λ j. decides-range (j .number) maxNumber) js) (decides-distinct (numbers js)))
-    (decides-each (decides-placed p) js))
+    (decides-each (λ j. decides-range (j .number) maxNumber) js and decides-distinct (numbers js) and decides-each (decides-placed p) js)
     (λ h. decides-capacities p js (h .1)))
     (λ h. decides-rows p js (h .0 .1)))
   where

@@ -1,10 +1,12 @@
--- What holds of each entry of a list, when the list is put together, loses an entry, or has another in its place.
-use Prim.Native.Nat.{ℕ, _≤_}
+-- What holds of each entry of a list, when the list is put together, loses an entry, or has another in its place; a least
+-- entry; copies.
+use Prim.Native.Nat.{ℕ, zero, suc, _≤_}
 use native.Mathlib.Nat.{le-refl}
 use native.Mathlib.Omega.{arith}
 use mathlib.Core.Logic.{_⊎_, inl, inr}
 use mathlib.Core.Path.{_≡_, refl, ap}
 use mathlib.Core.List.{List, [], _∷_, _++_}
+use lib.ListN.{getD, replicate}
 use Rattle.model.specs.Numbers.{Each}
 use Rattle.model.proofs.Decide.{decides-le, decided}
 
@@ -70,3 +72,9 @@ least-entry {A} g x (y ∷ ys) = step (least-entry g y ys)
               whole = ap (λ (zs : List A). x ∷ zs) (l .whole);
               least = (omega arith, l .least);
             }
+
+-- an entry that a list of copies lacks, read as the copy, is the copy too
+pub replicated : {A : Type 0} (n i : ℕ) (d : A) → getD (replicate n d) i d ≡ d
+replicated zero i d = refl
+replicated (suc n) zero d = refl
+replicated (suc n) (suc i) d = replicated n i d

@@ -10,11 +10,11 @@ use lib.Dec.{eqb}
 use Rattle.model.specs.Numbers.{InRange, inRange, sumTo, Lowest}
 use Rattle.model.specs.Questions.{FirstFailure}
 use Rattle.model.specs.Plan.{capacityOf, rankOf, boundOf, lengthOf, demandOf, weightOf}
-use Rattle.model.specs.Upstream.{RankedUpTo, UpstreamOf, OneUnit, OneUnits, UpstreamRow, UpstreamBound, UpstreamRule, checkConditions, rankedUpTo, upstreamOf, oneUnit, oddStage, oddType, upstreamRow, oddRow, oddBound, checkQuestions, check}
+use Rattle.model.specs.Upstream.{RankedUpTo, UpstreamOf, OneUnit, OneUnits, UpstreamRow, UpstreamBound, UpstreamRule, checkConditions, rankedUpTo, upstreamOf, oneUnit, faultyStage, faultyType, upstreamRow, faultyRow, faultyBound, checkQuestions, check, isMeets}
 use Rattle.model.specs.declared.Plan.{Plan}
 use Rattle.model.specs.declared.Check.{Check}
 use Rattle.model.specs.declared.Check.the-variants.{Meets, UnsoundPlan, NoRank, NotOneUnit, RowCount, WrongWeight, WrongBound}
-use Rattle.model.proofs.Decide.{Decides, holding, failing, decides-iff, decides-and, decides-le, decides-lt, decides-eq, decides-range, extend, decides-all, decides-some, decides-lowest, lowest-found, Answers, AllHold, none, next, first-failure, accepted, all-hold}
+use Rattle.model.proofs.Decide.{Decides, holding, failing, decides-iff, _and_, decides-le, decides-lt, decides-eq, decides-range, extend, decides-all, decides-some, decides-lowest, lowest-found, Answers, AllHold, none, next, first-failure, accepted, all-hold}
 use Rattle.model.proofs.Sums.{decides-single}
 use Rattle.model.proofs.Soundness.{decides-stages, decides-sound}
 
@@ -28,7 +28,7 @@ pub decides-ranked-up-to : (p : Plan) (target t k : ℕ) → Decides (RankedUpTo
 unfolding rankedUpTo
 decides-ranked-up-to p target t k =
     decides-iff (λ h. (h .0, h .1, h .2 .0, h .2 .1)) (λ h. (h .0, h .1, (h .2, h .3)))
-    (decides-some _ _ (p .resources) (λ r h. decides-and (decides-le 1 (demandOf p r t k)) (decides-le (rankOf p r) (rankOf p target))))
+    (decides-some _ _ (p .resources) (λ r h. decides-le 1 (demandOf p r t k) and decides-le (rankOf p r) (rankOf p target)))
 
 -- what is asked only where P does not hold
 decides-unless : {P Q : Type 0} {a b : Bool} → Decides P a → Decides Q b → Decides ((¬ P) → Q) (a || b)
@@ -43,7 +43,10 @@ decides-upstream p resource t k first =
     decides-iff
     (λ h. record { q = h .0; from = h .2 .0 .0; within = h .1 .1; demands = h .2 .0 .1; between = λ i low high. h .2 .1 i (omega arith) (omega arith) })
     (λ u. (u .q, (omega (arith, u .from), u .within), ((u .from, u .demands), λ i h low. u .between i (omega arith) (omega arith))))
-    (decides-some _ _ (lengthOf p t) (λ q h. decides-and (decides-and (decides-le k q) (decides-le 1 (demandOf p resource t q))) (decides-all _ _ (q - 1) (λ i _. decides-unless (decides-lt i k) (decides-ranked-up-to p resource t i)))))
+    (decides-some _ _ (lengthOf p t) (λ q h.
+    decides-le k q
+    and decides-le 1 (demandOf p resource t q)
+    and decides-all _ _ (q - 1) (λ i _. decides-unless (decides-lt i k) (decides-ranked-up-to p resource t i))))
 
 -- a number that is to be 1 where U holds and 0 where it does not
 decides-indicator : {U : Type 0} {b : Bool} (w : ℕ) → Decides U b → Decides ((U → w ≡ 1) × ((¬ U) → w ≡ 0)) (eqb w (cond b 1 0))
@@ -54,38 +57,29 @@ pub decides-upstream-row : (p : Plan) (r : ℕ) → Decides (UpstreamRow p r) (u
 unfolding upstreamRow
 decides-upstream-row p r = decides-stages p _ _ (λ t k h. decides-indicator (weightOf p r t k) (decides-upstream p r t k (h .1 .0)))
 
-abbrev pub isMeets : Check → Bool
-isMeets Meets = true
-isMeets UnsoundPlan = false
-isMeets NoRank = false
-isMeets (NotOneUnit t k) = false
-isMeets RowCount = false
-isMeets (WrongWeight r) = false
-isMeets (WrongBound r) = false
-
 module _ (p : Plan) where
   pub check-answers : Answers isMeets (checkQuestions p) (checkConditions p)
-  unfolding oddType oddStage oddRow oddBound
+  unfolding faultyType faultyStage faultyRow faultyBound
   check-answers =
       next (decides-sound p) (λ _. refl) refl λ _.
       next (decides-all _ _ (p .resources) (λ r _. decides-le 1 (rankOf p r))) (λ _. refl) refl λ _.
-      next (decides-lowest _ _ (p .types) types) (λ no. odd-stage (lowest-found _ _ (p .types) types no)) refl λ _.
+      next (decides-lowest _ _ (p .types) types) (λ no. faulty-stage (lowest-found _ _ (p .types) types no)) refl λ _.
       next (decides-eq (p .rows) (p .resources)) (λ _. refl) refl λ _.
-      next (decides-lowest _ _ (p .rows) rows) (λ no. odd-place WrongWeight (lowest-found _ _ (p .rows) rows no)) refl λ _.
-      next (decides-lowest _ _ (p .rows) bounds) (λ no. odd-place WrongBound (lowest-found _ _ (p .rows) bounds no)) refl λ _.
+      next (decides-lowest _ _ (p .rows) rows) (λ no. faulty-place WrongWeight (lowest-found _ _ (p .rows) rows no)) refl λ _.
+      next (decides-lowest _ _ (p .rows) bounds) (λ no. faulty-place WrongBound (lowest-found _ _ (p .rows) bounds no)) refl λ _.
       none
     where
       stages : (t k : ℕ) → InRange k (lengthOf p t) → Decides (OneUnit p t k) (oneUnit p t k)
       stages t k _ = decides-one-unit p t k
 
-      types : (t : ℕ) → InRange t (p .types) → Decides (OneUnits p t) (eqb (oddStage p t) 0)
+      types : (t : ℕ) → InRange t (p .types) → Decides (OneUnits p t) (eqb (faultyStage p t) 0)
       types t _ = decides-lowest _ _ (lengthOf p t) (stages t)
 
-      odd-stage : Lowest (p .types) (OneUnits p) (oddType p) → (t k : ℕ) × (NotOneUnit (oddType p) (oddStage p (oddType p)) ≡ NotOneUnit t k) × Lowest (p .types) (OneUnits p) t × Lowest (lengthOf p t) (OneUnit p t) k
-      odd-stage l = (oddType p, oddStage p (oddType p), refl, l, lowest-found _ _ (lengthOf p (oddType p)) (stages (oddType p)) (l .fails))
+      faulty-stage : Lowest (p .types) (OneUnits p) (faultyType p) → (t k : ℕ) × (NotOneUnit (faultyType p) (faultyStage p (faultyType p)) ≡ NotOneUnit t k) × Lowest (p .types) (OneUnits p) t × Lowest (lengthOf p t) (OneUnit p t) k
+      faulty-stage l = (faultyType p, faultyStage p (faultyType p), refl, l, lowest-found _ _ (lengthOf p (faultyType p)) (stages (faultyType p)) (l .fails))
 
-      odd-place : {P : ℕ → Type 0} {n i : ℕ} (refusal : ℕ → Check) → Lowest n P i → (r : ℕ) × (refusal i ≡ refusal r) × Lowest n P r
-      odd-place {i} refusal l = (i, refl, l)
+      faulty-place : {P : ℕ → Type 0} {n i : ℕ} (refusal : ℕ → Check) → Lowest n P i → (r : ℕ) × (refusal i ≡ refusal r) × Lowest n P r
+      faulty-place {i} refusal l = (i, refl, l)
 
       rows : (r : ℕ) → InRange r (p .rows) → Decides (UpstreamRow p r) (upstreamRow p r)
       rows r _ = decides-upstream-row p r

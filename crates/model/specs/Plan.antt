@@ -2,10 +2,29 @@
 -- named by their numbers, from 1; a number out of range has capacity, demand, weight, rank and bound 0. Stages follow in
 -- number order, so every job ends after finitely many (Condition 1) and every stage is passed (Condition 2).
 use Prim.Native.Nat.{ℕ, _+_, _-_, _≤_}
-use mathlib.Core.List.{[]}
+use lib.ListN.{replicate}
+use Rattle.model.specs.Limits.{maxResources, maxTypes, maxRows, maxAllStages}
 use Rattle.model.specs.Numbers.{InRange, entry, at, sumTo}
 use Rattle.model.specs.declared.Stage.{Stage}
 use Rattle.model.specs.declared.Plan.{Plan}
+
+-- what stands where no stage does
+abbrev pub noStage : Stage
+noStage = record { demand = replicate maxResources 0; weight = replicate maxRows 0 }
+
+-- the empty plan (document 01's term)
+unfoldable pub emptyPlan : Plan
+emptyPlan =
+    record {
+      resources = 0;
+      types = 0;
+      rows = 0;
+      capacity = replicate maxResources 0;
+      rank = replicate maxResources 0;
+      bound = replicate maxRows 0;
+      lengths = replicate maxTypes 0;
+      stages = replicate maxAllStages noStage;
+    }
 
 abbrev pub capacityOf : Plan → ℕ → ℕ
 capacityOf p r = at (p .capacity) r
@@ -31,7 +50,7 @@ allStages p = sumTo (p .types) (lengthOf p)
 
 -- stage k of type t: the stages are kept type by type
 unfoldable pub stageOf : Plan → ℕ → ℕ → Stage
-stageOf p t k = entry (p .stages) (sumTo (t - 1) (lengthOf p) + k) (record { demand = []; weight = [] })
+stageOf p t k = entry (p .stages) (sumTo (t - 1) (lengthOf p) + k) noStage
 
 -- the units of resource r that stage k of type t needs
 unfoldable pub demandOf : Plan → ℕ → ℕ → ℕ → ℕ
@@ -47,7 +66,3 @@ Demands p t k r = 1 ≤ demandOf p r t k
 -- the stage after stage k
 abbrev pub stageAfter : ℕ → ℕ
 stageAfter k = k + 1
-
--- the stages still before a job of type t at stage k, the present one included
-abbrev pub stagesLeft : Plan → ℕ → ℕ → ℕ
-stagesLeft p t k = lengthOf p t - k + 1

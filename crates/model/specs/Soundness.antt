@@ -2,14 +2,14 @@
 -- resources or for none, and only zeros beyond the counts.
 use Prim.Native.Nat.{ℕ, _≤_, _<_}
 use mathlib.Core.Bool.{Bool, _&&_, _||_}
-use mathlib.Core.List.{List, []}
+use mathlib.Core.List.{List}
 use mathlib.Core.Path.{_≡_}
 use mathlib.Core.Logic.{_⊎_}
 use lib.ListN.{drop}
 use lib.Dec.{leb, eqb}
 use Rattle.model.specs.Limits.{maxResources, maxTypes, maxRows, maxStages, maxAllStages, maxUnits, maxBound}
 use Rattle.model.specs.Numbers.{InRange, inRange, entry, at, allTo, someTo, each}
-use Rattle.model.specs.Plan.{capacityOf, rankOf, boundOf, lengthOf, IsStage, allStages, stageOf, demandOf, weightOf, Demands}
+use Rattle.model.specs.Plan.{noStage, capacityOf, rankOf, boundOf, lengthOf, IsStage, allStages, stageOf, demandOf, weightOf, Demands}
 use Rattle.model.specs.declared.Stage.{Stage}
 use Rattle.model.specs.declared.Plan.{Plan}
 
@@ -47,7 +47,7 @@ pub record Sound (p : Plan) : Type 0 where
   pub no-more-ranks : ZeroBeyond (p .resources) (p .rank)
   pub no-more-bounds : ZeroBeyond (p .rows) (p .bound)
   pub no-more-lengths : ZeroBeyond (p .types) (p .lengths)
-  pub no-more-stages : (i : ℕ) → allStages p < i → EmptyStage (entry (p .stages) i (record { demand = []; weight = [] }))
+  pub no-more-stages : (i : ℕ) → allStages p < i → EmptyStage (entry (p .stages) i noStage)
 
 -- the same, computed
 abbrev pub zeroBeyond : ℕ → List ℕ → Bool

@@ -91,51 +91,45 @@ unfoldable pub oneUnit : Plan → ℕ → ℕ → Bool
 oneUnit p t k = eqb (sumTo (p .resources) (λ (r : ℕ). demandOf p r t k)) 1
 
 -- the lowest stage of type t that does not demand one unit, and the lowest type that has one; 0 for none
-unfoldable pub oddStage : Plan → ℕ → ℕ
-oddStage p t = lowest (lengthOf p t) (oneUnit p t)
+unfoldable pub faultyStage : Plan → ℕ → ℕ
+faultyStage p t = lowest (lengthOf p t) (oneUnit p t)
 
-unfoldable pub oddType : Plan → ℕ
-oddType p = lowest (p .types) (λ (t : ℕ). eqb (oddStage p t) 0)
+unfoldable pub faultyType : Plan → ℕ
+faultyType p = lowest (p .types) (λ (t : ℕ). eqb (faultyStage p t) 0)
 
 unfoldable pub upstreamRow : Plan → ℕ → Bool
 upstreamRow p r =
     allTo (p .types) (λ (t : ℕ). allTo (lengthOf p t) (λ (k : ℕ). eqb (weightOf p r t k) (cond (upstreamOf p r t k) 1 0)))
 
 -- the lowest row with a wrong weight, and with a wrong bound; 0 for none
-unfoldable pub oddRow : Plan → ℕ
-oddRow p = lowest (p .rows) (upstreamRow p)
+unfoldable pub faultyRow : Plan → ℕ
+faultyRow p = lowest (p .rows) (upstreamRow p)
 
-unfoldable pub oddBound : Plan → ℕ
-oddBound p = lowest (p .rows) (λ (r : ℕ). inRange (boundOf p r) (capacityOf p r))
+unfoldable pub faultyBound : Plan → ℕ
+faultyBound p = lowest (p .rows) (λ (r : ℕ). inRange (boundOf p r) (capacityOf p r))
 
 abbrev pub checkQuestions : Plan → List (Question Check)
 checkQuestions p =
     ask (sound p) UnsoundPlan
     ∷ ask (allTo (p .resources) (λ (r : ℕ). leb 1 (rankOf p r))) NoRank
-    ∷ ask (eqb (oddType p) 0) (NotOneUnit (oddType p) (oddStage p (oddType p)))
+    ∷ ask (eqb (faultyType p) 0) (NotOneUnit (faultyType p) (faultyStage p (faultyType p)))
     ∷ ask (eqb (p .rows) (p .resources)) RowCount
-    ∷ ask (eqb (oddRow p) 0) (WrongWeight (oddRow p))
-    ∷ ask (eqb (oddBound p) 0) (WrongBound (oddBound p))
+    ∷ ask (eqb (faultyRow p) 0) (WrongWeight (faultyRow p))
+    ∷ ask (eqb (faultyBound p) 0) (WrongBound (faultyBound p))
     ∷ []
 
 unfoldable pub check : Plan → Check
 check p = answerOf Meets (checkQuestions p)
 
--- the paper's number and two places of each answer
-abbrev pub checkNumber : Check → ℕ
-checkNumber Meets = 0
-checkNumber UnsoundPlan = 11
-checkNumber NoRank = 21
-checkNumber (NotOneUnit t k) = 22
-checkNumber RowCount = 23
-checkNumber (WrongWeight r) = 24
-checkNumber (WrongBound r) = 25
+-- the paper's number and two places of each answer, and whether it is 0
+abbrev pub checkNumbers : Check → ℕ × ℕ × ℕ
+checkNumbers Meets = (0, 0, 0)
+checkNumbers UnsoundPlan = (11, 0, 0)
+checkNumbers NoRank = (21, 0, 0)
+checkNumbers (NotOneUnit t k) = (22, t, k)
+checkNumbers RowCount = (23, 0, 0)
+checkNumbers (WrongWeight r) = (24, r, 0)
+checkNumbers (WrongBound r) = (25, r, 0)
 
-abbrev pub checkPlace : Check → ℕ × ℕ
-checkPlace Meets = (0, 0)
-checkPlace UnsoundPlan = (0, 0)
-checkPlace NoRank = (0, 0)
-checkPlace (NotOneUnit t k) = (t, k)
-checkPlace RowCount = (0, 0)
-checkPlace (WrongWeight r) = (r, 0)
-checkPlace (WrongBound r) = (r, 0)
+abbrev pub isMeets : Check → Bool
+isMeets c = eqb (checkNumbers c .0) 0

@@ -5,7 +5,7 @@ use Prim.Native.Nat.{ℕ}
 use Rattle.model.specs.Plan.{allStages, stageOf, demandOf, weightOf}
 use Rattle.model.specs.Jobs.{overStages, exceeded, broken, isStage, agreeing}
 use Rattle.model.specs.Soundness.{soundStage, soundCounts, soundRanks, soundBeyond, sound}
-use Rattle.model.specs.Upstream.{rankedUpTo, upstreamOf, oneUnit, oddStage, oddType, upstreamRow, oddRow, oddBound, check}
+use Rattle.model.specs.Upstream.{rankedUpTo, upstreamOf, oneUnit, faultyStage, faultyType, upstreamRow, faultyRow, faultyBound, check}
 use Rattle.admission.specs.Table.{tableOf, agrees}
 use Rattle.admission.specs.Events.{answer, tableAfter}
 use Rattle.admission.specs.Drain.{drainFrom, drain}
@@ -13,5 +13,5 @@ use Rattle.worked.specs.Plans.{crossingWith, crossingPlan, equation40, w
 use Rattle.worked.specs.Runs.{Row, result, rows}
 
 pub every-row-holds : map (λ (r : Row). result (r .asked)) rows ≡ map (λ (r : Row). r .expected) rows
-unfolding allStages stageOf demandOf weightOf overStages exceeded broken isStage agreeing soundStage soundCounts soundRanks soundBeyond sound rankedUpTo upstreamOf oneUnit oddStage oddType upstreamRow oddRow oddBound check tableOf agrees answer tableAfter drainFrom drain crossingWith crossingPlan equation40 withoutRows oneStation jobsPerStage result rows
+unfolding allStages stageOf demandOf weightOf overStages exceeded broken isStage agreeing soundStage soundCounts soundRanks soundBeyond sound rankedUpTo upstreamOf oneUnit faultyStage faultyType upstreamRow faultyRow faultyBound check tableOf agrees answer tableAfter drainFrom drain crossingWith crossingPlan equation40 withoutRows oneStation jobsPerStage result rows
 every-row-holds = refl

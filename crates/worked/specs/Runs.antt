@@ -2,12 +2,12 @@
 -- paper gives for it.
 use Prim.Native.Nat.{ℕ, zero, suc}
 use mathlib.Core.List.{List, [], _∷_, _++_, map}
-use Rattle.model.specs.Upstream.{check, checkNumber, checkPlace}
+use Rattle.model.specs.Upstream.{check, checkNumbers}
 use Rattle.model.specs.Jobs.{rowSum, broken}
 use Rattle.model.specs.declared.Plan.{Plan}
 use Rattle.model.specs.declared.Job.{Job}
 use Rattle.admission.specs.Table.{tableOf, jobsOf}
-use Rattle.admission.specs.Events.{answer, tableAfter, answerNumber, answerPlace}
+use Rattle.admission.specs.Events.{answer, tableAfter, answerNumbers}
 use Rattle.admission.specs.Drain.{drain, endNumber}
 use Rattle.admission.specs.declared.Event.{Event}
 use Rattle.admission.specs.declared.Event.the-variants.{Advance}
@@ -31,14 +31,14 @@ stagesOf js = map (λ (j : Job). j .stage) js
 -- and the row broken; of a drain its answer and moves, of an event its answer and place, both with the stages left
 unfoldable pub result : Run → List ℕ
 unfolding sums stagesOf
-result (checked p) = checkNumber (check p) ∷ checkPlace (check p) .0 ∷ checkPlace (check p) .1 ∷ []
+result (checked p) = let c = checkNumbers (check p) in c .0 ∷ c .1 ∷ c .2 ∷ []
 result (weighed p js) = sums p js (p .rows) ++ broken p js ∷ []
 result (drained p js budget) =
     let d = drain p (tableOf js) budget in
     endNumber (d .end) ∷ d .moves ∷ stagesOf (jobsOf (d .table))
 result (answered p js e) =
-    let a = answer p (tableOf js) e in
-    answerNumber a ∷ answerPlace a ∷ stagesOf (jobsOf (tableAfter p (tableOf js) e))
+    let a = answerNumbers (answer p (tableOf js) e) in
+    a .0 ∷ a .1 ∷ stagesOf (jobsOf (tableAfter p (tableOf js) e))
 
 pub record Row : Type 0 where
   pub asked : Run
