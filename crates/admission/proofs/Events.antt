@@ -21,7 +21,7 @@ use Rattle.model.proofs.Jobs.{distinct-moved, distinct-removed, distinct-added,
 use Rattle.model.proofs.Progress.{removed-keeps-capacities, removed-keeps-rows}
 use Rattle.model.proofs.Soundness.{decides-sound}
 use Rattle.admission.specs.Table.{jobsOf, tableOf, Agrees}
-use Rattle.admission.specs.Events.{HasNext, IsLast, Named, Allowed, WellNamed, after, keptConditions, ownConditions, eventConditions, keptQuestions, ownQuestions, eventQuestions, answer, isAdmitted, tableAfter, Judged, answerNumbers}
+use Rattle.admission.specs.Events.{HasNext, IsLast, Named, Allowed, WellNamed, jobsAfter, keptConditions, ownConditions, eventConditions, keptQuestions, ownQuestions, eventQuestions, answer, isAdmitted, tableAfter, Judged, answerNumbers}
 use Rattle.admission.specs.declared.Table.{Table}
 use Rattle.admission.specs.declared.Event.{Event}
 use Rattle.admission.specs.declared.Event.the-variants.{Load, Advance, Unload}
@@ -92,7 +92,7 @@ module _ (p : Plan) (sound : Sound p) (js : List Job) (agreeing : Agreeing p js)
       kept-answers p (unloaded n js) (placed-unloaded n a)
 
   -- where its own questions are met an event leads to the jobs that the model names, which agree with the plan
-  pub own-named : (e : Event) → AllHold (ownConditions p js e) → Named p js e (after js e)
+  pub own-named : (e : Event) → AllHold (ownConditions p js e) → Named p js e (jobsAfter js e)
   own-named (Load n t) h = refl
   own-named (Advance n) h =
       let a = h .1 .0 in
@@ -101,12 +101,12 @@ module _ (p : Plan) (sound : Sound p) (js : List Job) (agreeing : Agreeing p js)
       let a = h .1 .0 in
       (a, subst (IsLast p) (names n a .job) (h .1 .1 .0), names n a .unload)
 
-  named-after : (e : Event) {next : List Job} → Named p js e next → next ≡ after js e
+  named-after : (e : Event) {next : List Job} → Named p js e next → next ≡ jobsAfter js e
   named-after (Load n t) h = h
   named-after (Advance n) h = h .2 ∙ sym (names n (h .0) .advance)
   named-after (Unload n) h = h .2 ∙ sym (names n (h .0) .unload)
 
-  own-length : (e : Event) → AllHold (ownConditions p js e) → length js ≤ maxJobs → length (after js e) ≤ maxJobs
+  own-length : (e : Event) → AllHold (ownConditions p js e) → length js ≤ maxJobs → length (jobsAfter js e) ≤ maxJobs
   own-length (Load n t) h few = omega (arith, length-append js (loadedJob n t ∷ []), h .1 .1 .1 .0)
   own-length (Advance n) h few =
       let a = h .1 .0 in
@@ -117,7 +117,7 @@ module _ (p : Plan) (sound : Sound p) (js : List Job) (agreeing : Agreeing p js)
       rw (names n a .unload)
       (omega (arith, length-append (a .before) (a .after), length-append (a .before) (a .job ∷ a .after), ap length (a .whole)))
 
-  pub own-agreeing : (e : Event) → AllHold (ownConditions p js e) → Agreeing p (after js e)
+  pub own-agreeing : (e : Event) → AllHold (ownConditions p js e) → Agreeing p (jobsAfter js e)
   own-agreeing (Load n t) h =
       record {
         numbered = append-each Numbered js (loadedJob n t ∷ []) (agreeing .numbered) (h .0, tt);
@@ -155,7 +155,7 @@ module _ (p : Plan) (sound : Sound p) (js : List Job) (agreeing : Agreeing p js)
       (each-at Numbered (a .before) (a .job) (a .after) (parts n a Numbered (agreeing .numbered)))
 
   -- a well named event that is allowed meets its own questions
-  allowed-kept : (e : Event) → Allowed p js e → AllHold (keptConditions p (after js e))
+  allowed-kept : (e : Event) → Allowed p js e → AllHold (keptConditions p (jobsAfter js e))
   allowed-kept e l =
       let same = named-after e (l .named) in
       (subst (KeepsCapacities p) same (l .capacities), (subst (KeepsRows p) same (l .rows), tt))
@@ -170,7 +170,7 @@ module _ (p : Plan) (sound : Sound p) (js : List Job) (agreeing : Agreeing p js)
   own-allowed : (e : Event) → AllHold (ownConditions p js e) → Allowed p js e
   own-allowed e h =
       let agrees = own-agreeing e h in
-      record { next = after js e; named = own-named e h; capacities = agrees .capacities; rows = agrees .rows }
+      record { next = jobsAfter js e; named = own-named e h; capacities = agrees .capacities; rows = agrees .rows }
 
 pub event-answers : (p : Plan) (t : Table) (e : Event) → Answers isAdmitted (eventQuestions p t e) (eventConditions p t e)
 event-answers p t e =
@@ -206,7 +206,7 @@ module _ (p : Plan) (t : Table) (e : Event) where
   unfolding answer
   holds-admitted h = accepted isAdmitted Admitted (event-answers p t e) h
 
-  pub table-admitted : answer p t e ≡ Admitted → tableAfter p t e ≡ tableOf (after (jobsOf t) e)
+  pub table-admitted : answer p t e ≡ Admitted → tableAfter p t e ≡ tableOf (jobsAfter (jobsOf t) e)
   unfolding tableAfter
   table-admitted h = rw h
 
@@ -224,7 +224,7 @@ agrees-after p t e sound agrees = ⊎-elim yes (λ h. rw (table-refused p t e h)
     yes h =
         let own = admitted-holds p t e h .1 .1 in
         rw (table-admitted p t e h)
-        (agreeing-table p (after (jobsOf t) e) (own-length p sound (jobsOf t) (agrees .jobs) e own few) (own-agreeing p sound (jobsOf t) (agrees .jobs) e own))
+        (agreeing-table p (jobsAfter (jobsOf t) e) (own-length p sound (jobsOf t) (agrees .jobs) e own few) (own-agreeing p sound (jobsOf t) (agrees .jobs) e own))
 
 -- demand 2: a well named event is judged as the model and the plan's inequalities do
 pub judged : (p : Plan) (t : Table) (e : Event) → Sound p → Agrees p t → WellNamed p (jobsOf t) e → Judged p t e

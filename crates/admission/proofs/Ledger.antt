@@ -16,7 +16,7 @@ use Rattle.model.proofs.Decide.{AllHold, passes}
 use Rattle.model.proofs.Sums.{over-stages-added, over-stages-removed, over-stages-moved}
 use Rattle.model.proofs.Jobs.{decides-active, Found}
 use Rattle.admission.specs.Table.{jobsOf, tableOf, Agrees}
-use Rattle.admission.specs.Events.{HasNext, after, ownConditions, answer, isAdmitted, tableAfter}
+use Rattle.admission.specs.Events.{HasNext, jobsAfter, ownConditions, answer, isAdmitted, tableAfter}
 use Rattle.admission.specs.Ledger.{Ledger, demandAt, takes, gives, written, entered}
 use Rattle.admission.specs.Run.{State}
 use Rattle.admission.specs.declared.Table.{Table}
@@ -33,7 +33,7 @@ Balanced p l = (r : ℕ) → l .taken r ≡ l .given r + unitsHeld p r (l .jobs)
 module _ (p : Plan) (sound : Sound p) (l : Ledger) (agreeing : Agreeing p (l .jobs)) (balanced : Balanced p l) where
   -- what is written of an event whose questions are met
   record Written (e : Event) (new : Ledger) : Type 0 where
-    jobs : new .jobs ≡ after (l .jobs) e
+    jobs : new .jobs ≡ jobsAfter (l .jobs) e
     balance : Balanced p new
 
   event-written : (e : Event) → AllHold (ownConditions p (l .jobs) e) → Written e (written p l e)
@@ -57,7 +57,7 @@ module _ (p : Plan) (sound : Sound p) (l : Ledger) (agreeing : Agreeing p (l .jo
       next : HasNext p (a .job)
       next = subst (HasNext p) (found .job) (h .1 .1 .0)
 
-      balance : (r : ℕ) → l .taken r + takes p (jobOf n (l .jobs)) r ≡ l .given r + gives p (jobOf n (l .jobs)) r + unitsHeld p r (after (l .jobs) (Advance n))
+      balance : (r : ℕ) → l .taken r + takes p (jobOf n (l .jobs)) r ≡ l .given r + gives p (jobOf n (l .jobs)) r + unitsHeld p r (jobsAfter (l .jobs) (Advance n))
       balance r =
           rw (found .advance, found .job)
           (omega (arith, balanced r, ap (unitsHeld p r) (a .whole), over-stages-moved p (demandOf p r) (a .before) (a .after) (a .job) (advancedJob (a .job)) here (here .0, omega (arith, next))))
@@ -69,7 +69,7 @@ module _ (p : Plan) (sound : Sound p) (l : Ledger) (agreeing : Agreeing p (l .jo
       found : Found n (l .jobs) a
       found = names p sound (l .jobs) agreeing n a
 
-      balance : (r : ℕ) → l .taken r ≡ l .given r + demandAt p (jobOf n (l .jobs)) r + unitsHeld p r (after (l .jobs) (Unload n))
+      balance : (r : ℕ) → l .taken r ≡ l .given r + demandAt p (jobOf n (l .jobs)) r + unitsHeld p r (jobsAfter (l .jobs) (Unload n))
       balance r =
           rw (found .unload, found .job)
           (omega (arith, balanced r, ap (unitsHeld p r) (a .whole), over-stages-removed p (demandOf p r) (a .before) (a .after) (a .job) (placed-job p sound (l .jobs) agreeing n a)))
@@ -103,7 +103,7 @@ stays-consistent p sound s e h = ⊎-elim yes not (admitted-or-not (answer p (s 
         let w = event-written p sound (s .ledger) (subst (Agreeing p) same-jobs (h .agrees .jobs)) (h .balance) e own in
         rw (ap isAdmitted a)
         (record {
-          same = table-admitted p (s .table) e a ∙ ap tableOf (ap (λ (js : List Job). after js e) same-jobs ∙ sym (w .jobs));
+          same = table-admitted p (s .table) e a ∙ ap tableOf (ap (λ (js : List Job). jobsAfter js e) same-jobs ∙ sym (w .jobs));
           agrees = agrees;
           balance = w .balance;
         })

@@ -20,7 +20,7 @@ use Rattle.model.proofs.Lists.{each-at}
 use Rattle.model.proofs.Sums.{over-jobs-moved, over-jobs-removed}
 use Rattle.model.proofs.Progress.{removed-keeps-capacities, removed-keeps-rows, Movable, progress}
 use Rattle.admission.specs.Table.{jobsOf, tableOf, Agrees}
-use Rattle.admission.specs.Events.{IsMove, Named, after, ownConditions, isLast, answer, tableAfter}
+use Rattle.admission.specs.Events.{IsMove, Named, jobsAfter, ownConditions, isLast, answer, tableAfter}
 use Rattle.admission.specs.Drain.{stagesLeft, stagesBefore, moveOf}
 use Rattle.admission.specs.declared.Table.{Table}
 use Rattle.admission.specs.declared.Event.{Event}
@@ -29,8 +29,8 @@ use Rattle.admission.specs.declared.Answer.the-variants.{Admitted}
 use Rattle.admission.proofs.Tables.{jobs-of-table}
 use Rattle.admission.proofs.Events.{own-named, admitted-holds, table-admitted, judged}
 
-pub jobs-admitted : (p : Plan) (t : Table) (e : Event) → answer p t e ≡ Admitted → jobsOf (tableAfter p t e) ≡ after (jobsOf t) e
-jobs-admitted p t e h = ap jobsOf (table-admitted p t e h) ∙ jobs-of-table (after (jobsOf t) e)
+pub jobs-admitted : (p : Plan) (t : Table) (e : Event) → answer p t e ≡ Admitted → jobsOf (tableAfter p t e) ≡ jobsAfter (jobsOf t) e
+jobs-admitted p t e h = ap jobsOf (table-admitted p t e h) ∙ jobs-of-table (jobsAfter (jobsOf t) e)
 
 -- one move, one stage
 named-count : (p : Plan) (js : List Job) (e : Event) → IsMove e → (next : List Job) → Named p js e next → 1 + stagesBefore p next ≡ stagesBefore p js
@@ -46,7 +46,7 @@ pub move-count : (p : Plan) (t : Table) (e : Event) → IsMove e → answer p t 
 move-count p t e move h =
     let holds = admitted-holds p t e h in
     rw (jobs-admitted p t e h)
-    (named-count p (jobsOf t) e move (after (jobsOf t) e) (own-named p (holds .0) (jobsOf t) (holds .1 .0 .jobs) e (holds .1 .1)))
+    (named-count p (jobsOf t) e move (jobsAfter (jobsOf t) e) (own-named p (holds .0) (jobsOf t) (holds .1 .0 .jobs) e (holds .1 .1)))
 
 -- a job's move is a move
 pub job-moves : (p : Plan) (j : Job) → IsMove (moveOf p j)

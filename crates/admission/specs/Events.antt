@@ -10,7 +10,7 @@ use Rattle.model.specs.Limits.{maxNumber, maxJobs}
 use Rattle.model.specs.Numbers.{InRange, inRange, Lowest}
 use Rattle.model.specs.Questions.{Question, Condition, ask, asks, answerOf, FirstFailure}
 use Rattle.model.specs.Plan.{lengthOf, capacityOf, boundOf}
-use Rattle.model.specs.Jobs.{unitsHeld, rowSum, KeepsCapacities, KeepsRows, Active, isActive, jobOf, advancedJob, loaded, advanced, unloaded, exceeded, broken}
+use Rattle.model.specs.Jobs.{unitsHeld, rowSum, KeepsCapacities, KeepsRows, Active, isActive, jobOf, loadedJob, advancedJob, loaded, advanced, unloaded, exceeded, broken}
 use Rattle.model.specs.Soundness.{Sound, sound}
 use Rattle.model.specs.declared.Plan.{Plan}
 use Rattle.model.specs.declared.Job.{Job}
@@ -35,10 +35,10 @@ HasNext p j = j .stage < lengthOf p (j .kind)
 abbrev pub IsLast : Plan → Job → Type 0
 IsLast p j = j .stage ≡ lengthOf p (j .kind)
 
--- the jobs that the model names after an event: a load comes last at stage 1; an advance swaps the demands of two
--- stages in one act (Condition 3 of source document 003), so nothing is judged in between; an unload closes the gap
+-- the jobs that the model names after an event: a load comes last, at stage 1; an advance swaps the demands of two stages
+-- in one act (Condition 3 of source document 003), so only the jobs afterwards are judged; an unload closes the gap
 abbrev pub Named : Plan → List Job → Event → List Job → Type 0
-Named p js (Load n t) next = next ≡ loaded n t js
+Named p js (Load n t) next = next ≡ js ++ loadedJob n t ∷ []
 Named p js (Advance n) next = (a : Active n js) × HasNext p (a .job) × (next ≡ a .before ++ advancedJob (a .job) ∷ a .after)
 Named p js (Unload n) next = (a : Active n js) × IsLast p (a .job) × (next ≡ a .before ++ a .after)
 
@@ -56,10 +56,10 @@ WellNamed p js (Advance n) = Active n js
 WellNamed p js (Unload n) = Active n js
 
 -- the jobs after an event that is admitted
-abbrev pub after : List Job → Event → List Job
-after js (Load n t) = loaded n t js
-after js (Advance n) = advanced n js
-after js (Unload n) = unloaded n js
+abbrev pub jobsAfter : List Job → Event → List Job
+jobsAfter js (Load n t) = loaded n t js
+jobsAfter js (Advance n) = advanced n js
+jobsAfter js (Unload n) = unloaded n js
 
 -- the event questions as they are worded
 abbrev pub keptConditions : Plan → List Job → List (Condition Answer)
@@ -80,17 +80,17 @@ ownConditions p js (Load n t) =
     ∷ asks (¬ Active n js) WrongActivity
     ∷ asks (InRange t (p .types)) UnknownType
     ∷ asks (length js < maxJobs) Full
-    ∷ keptConditions p (after js (Load n t))
+    ∷ keptConditions p (jobsAfter js (Load n t))
 ownConditions p js (Advance n) =
     asks (InRange n maxNumber) BadNumber
     ∷ asks (Active n js) WrongActivity
     ∷ asks (HasNext p (jobOf n js)) WrongStage
-    ∷ keptConditions p (after js (Advance n))
+    ∷ keptConditions p (jobsAfter js (Advance n))
 ownConditions p js (Unload n) =
     asks (InRange n maxNumber) BadNumber
     ∷ asks (Active n js) WrongActivity
     ∷ asks (IsLast p (jobOf n js)) WrongStage
-    ∷ keptConditions p (after js (Unload n))
+    ∷ keptConditions p (jobsAfter js (Unload n))
 
 abbrev pub eventConditions : Plan → Table → Event → List (Condition Answer)
 eventConditions p t e = asks (Sound p) UnsoundPlan ∷ asks (Agrees p t) Disagreement ∷ ownConditions p (jobsOf t) e
@@ -111,17 +111,17 @@ ownQuestions p js (Load n t) =
     ∷ ask (not (isActive n js)) WrongActivity
     ∷ ask (inRange t (p .types)) UnknownType
     ∷ ask (ltb (length js) maxJobs) Full
-    ∷ keptQuestions p (after js (Load n t))
+    ∷ keptQuestions p (jobsAfter js (Load n t))
 ownQuestions p js (Advance n) =
     ask (inRange n maxNumber) BadNumber
     ∷ ask (isActive n js) WrongActivity
     ∷ ask (hasNext p (jobOf n js)) WrongStage
-    ∷ keptQuestions p (after js (Advance n))
+    ∷ keptQuestions p (jobsAfter js (Advance n))
 ownQuestions p js (Unload n) =
     ask (inRange n maxNumber) BadNumber
     ∷ ask (isActive n js) WrongActivity
     ∷ ask (isLast p (jobOf n js)) WrongStage
-    ∷ keptQuestions p (after js (Unload n))
+    ∷ keptQuestions p (jobsAfter js (Unload n))
 
 abbrev pub eventQuestions : Plan → Table → Event → List (Question Answer)
 eventQuestions p t e = ask (sound p) UnsoundPlan ∷ ask (agrees p t) Disagreement ∷ ownQuestions p (jobsOf t) e
@@ -148,7 +148,7 @@ isAdmitted a = eqb (answerNumbers a .0) 0
 
 -- the table after an event: a refusal hands back the same
 unfoldable pub tableAfter : Plan → Table → Event → Table
-tableAfter p t e = cond (isAdmitted (answer p t e)) (tableOf (after (jobsOf t) e)) t
+tableAfter p t e = cond (isAdmitted (answer p t e)) (tableOf (jobsAfter (jobsOf t) e)) t
 
 abbrev pub outcome : Plan → Table → Event → Outcome
 outcome p t e = record { answer = answer p t e; table = tableAfter p t e }

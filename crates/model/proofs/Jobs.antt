@@ -11,8 +11,8 @@ use lib.ListN.{length, length-append}
 use borrow.Author.Tests.{eq-eqb, ne-eqb}
 use Rattle.model.specs.Limits.{maxNumber}
 use Rattle.model.specs.Numbers.{InRange, Lowest, Each, each, Distinct}
-use Rattle.model.specs.Plan.{capacityOf, boundOf, IsStage, demandOf, weightOf, lengthOf}
-use Rattle.model.specs.Jobs.{noJob, overStages, overJobs, unitsHeld, rowSum, KeepsCapacities, KeepsRows, exceeded, broken, Active, isActive, jobOf, advancedJob, loaded, advanced, unloaded, isNumbered, numbers, Numbered, Placed, Agreeing, distinct, isStage, agreeing}
+use Rattle.model.specs.Plan.{isStage, capacityOf, boundOf, IsStage, demandOf, weightOf, lengthOf}
+use Rattle.model.specs.Jobs.{noJob, overStages, overJobs, unitsHeld, rowSum, KeepsCapacities, KeepsRows, exceeded, broken, Active, isActive, jobOf, advancedJob, loaded, advanced, unloaded, isNumbered, numbers, Numbered, Placed, Agreeing, distinct, agreeing}
 use Rattle.model.specs.declared.Plan.{Plan}
 use Rattle.model.specs.declared.Job.{Job}
 use Rattle.model.proofs.Decide.{Decides, holding, failing, holds, decided, decides-iff, _and_, decides-then, decides-or, decides-not, decides-le, decides-eq, decides-range, decides-each, decides-lowest, lowest-found}

@@ -7,7 +7,7 @@ use mathlib.Core.Path.{_≡_}
 use lib.Dec.{leb, eqb}
 use Rattle.model.specs.Limits.{maxNumber}
 use Rattle.model.specs.Numbers.{InRange, inRange, sumTo, lowest, Each, each, Distinct}
-use Rattle.model.specs.Plan.{lengthOf, IsStage, demandOf, weightOf, capacityOf, boundOf, stageAfter}
+use Rattle.model.specs.Plan.{lengthOf, IsStage, isStage, demandOf, weightOf, capacityOf, boundOf, stageAfter}
 use Rattle.model.specs.declared.Plan.{Plan}
 use Rattle.model.specs.declared.Job.{Job}
 
@@ -34,13 +34,14 @@ unitsHeld p r js = overStages p (demandOf p r) js
 abbrev pub rowSum : Plan → ℕ → List Job → ℕ
 rowSum p w js = overStages p (weightOf p w) js
 
+-- no capacity is exceeded, and every row is kept: Equation 1
 abbrev pub KeepsCapacities : Plan → List Job → Type 0
 KeepsCapacities p js = (r : ℕ) → InRange r (p .resources) → unitsHeld p r js ≤ capacityOf p r
 
 abbrev pub KeepsRows : Plan → List Job → Type 0
 KeepsRows p js = (w : ℕ) → InRange w (p .rows) → rowSum p w js ≤ boundOf p w
 
--- the same sums as they are computed, job by job
+-- the same sum as it is computed, job by job
 abbrev pub overJobs : (ℕ → ℕ → ℕ) → List Job → ℕ
 overJobs f [] = 0
 overJobs f (j ∷ js) = f (j .kind) (j .stage) + overJobs f js
@@ -52,7 +53,7 @@ exceeded p js = lowest (p .resources) (λ (r : ℕ). leb (overJobs (demandOf p r
 unfoldable pub broken : Plan → List Job → ℕ
 broken p js = lowest (p .rows) (λ (w : ℕ). leb (overJobs (weightOf p w) js) (boundOf p w))
 
--- a job of the list with that number, and what stands before and after it
+-- the number is active (document 01's term): a job of the list has it; with what stands before and after that job
 pub record Active (n : ℕ) (js : List Job) : Type 0 where
   pub before : List Job
   pub job : Job
@@ -60,6 +61,7 @@ pub record Active (n : ℕ) (js : List Job) : Type 0 where
   pub whole : js ≡ before ++ job ∷ after
   pub numbered : job .number ≡ n
 
+-- the same, computed: is the number active, and which job has it
 abbrev pub isNumbered : ℕ → Job → Bool
 isNumbered n j = eqb (j .number) n
 
@@ -100,7 +102,7 @@ Numbered j = InRange (j .number) maxNumber
 abbrev pub Placed : Plan → Job → Type 0
 Placed p j = IsStage p (j .kind) (j .stage)
 
--- the jobs agree with the plan
+-- the jobs agree with the plan: what document 01 asks of the jobs of an agreeing table
 pub record Agreeing (p : Plan) (js : List Job) : Type 0 where
   pub numbered : Each Numbered js
   pub distinct : Distinct (numbers js)
@@ -108,12 +110,10 @@ pub record Agreeing (p : Plan) (js : List Job) : Type 0 where
   pub capacities : KeepsCapacities p js
   pub rows : KeepsRows p js
 
+-- the same, computed
 abbrev pub distinct : List ℕ → Bool
 distinct [] = true
 distinct (n ∷ ns) = each (λ (m : ℕ). not (eqb m n)) ns && distinct ns
-
-unfoldable pub isStage : Plan → ℕ → ℕ → Bool
-isStage p t k = inRange t (p .types) && inRange k (lengthOf p t)
 
 unfoldable pub agreeing : Plan → List Job → Bool
 agreeing p js =

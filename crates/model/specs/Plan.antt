@@ -1,10 +1,12 @@
--- The plan as a resource allocation system: Definition 1 of source document 003. Resources, types, stages and rows are
--- named by their numbers, from 1; a number out of range has capacity, demand, weight, rank and bound 0. Stages follow in
--- number order, so every job ends after finitely many (Condition 1) and every stage is passed (Condition 2).
+-- The plan as a resource allocation system, Definition 1 of source document 003: resources with their capacities, job
+-- types made of stages, and a demand of units for each stage. Resources, types, stages and rows are named by their
+-- numbers, from 1. Stages follow in number order, so every job ends after finitely many (Condition 1) and passes every
+-- stage of its type (Condition 2).
 use Prim.Native.Nat.{ℕ, _+_, _-_, _≤_}
+use mathlib.Core.Bool.{Bool, _&&_}
 use lib.ListN.{replicate}
 use Rattle.model.specs.Limits.{maxResources, maxTypes, maxRows, maxAllStages}
-use Rattle.model.specs.Numbers.{InRange, entry, at, sumTo}
+use Rattle.model.specs.Numbers.{InRange, inRange, entry, at, sumTo}
 use Rattle.model.specs.declared.Stage.{Stage}
 use Rattle.model.specs.declared.Plan.{Plan}
 
@@ -43,6 +45,9 @@ lengthOf p t = at (p .lengths) t
 -- (t, k) is a stage of the plan
 abbrev pub IsStage : Plan → ℕ → ℕ → Type 0
 IsStage p t k = InRange t (p .types) × InRange k (lengthOf p t)
+
+unfoldable pub isStage : Plan → ℕ → ℕ → Bool
+isStage p t k = inRange t (p .types) && inRange k (lengthOf p t)
 
 -- the stages of all types together
 unfoldable pub allStages : Plan → ℕ

@@ -2,8 +2,8 @@
 use mathlib.Core.List.{List, map}
 use mathlib.Core.Path.{_≡_, refl}
 use Prim.Native.Nat.{ℕ}
-use Rattle.model.specs.Plan.{allStages, stageOf, demandOf, weightOf}
-use Rattle.model.specs.Jobs.{overStages, exceeded, broken, isStage, agreeing}
+use Rattle.model.specs.Plan.{isStage, allStages, stageOf, demandOf, weightOf}
+use Rattle.model.specs.Jobs.{overStages, exceeded, broken, agreeing}
 use Rattle.model.specs.Soundness.{soundStage, soundCounts, soundRanks, soundBeyond, sound}
 use Rattle.model.specs.Upstream.{rankedUpTo, upstreamOf, oneUnit, faultyStage, faultyType, upstreamRow, faultyRow, faultyBound, check}
 use Rattle.admission.specs.Table.{tableOf, agrees}
