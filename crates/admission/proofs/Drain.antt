@@ -54,13 +54,16 @@ earliest-searched p t (j ∷ js) = step (admitted-or-not (answer p t (moveOf p j
     step (inl h) s = rw (ap isAdmitted h) ([], j, js, refl, refl, h, tt)
     step (inr h) s = rw h (later (earliest p t js) (refused h) s)
 
-empty-or-not : (js : List Job) → ((js ≡ []) × (isEmpty js ≡ true)) ⊎ ((js ≢ []) × (isEmpty js ≡ false))
+abbrev EmptyOrNot : List Job → Type 0
+EmptyOrNot js = ((js ≡ []) × (isEmpty js ≡ true)) ⊎ ((js ≢ []) × (isEmpty js ≡ false))
+
+empty-or-not : (js : List Job) → EmptyOrNot js
 empty-or-not [] = inl (refl, refl)
 empty-or-not (j ∷ js) = inr (λ e. false≢true (ap isEmpty e), refl)
 
 module _ (p : Plan) (sound : Sound p) where
   -- a drain from an agreeing table
-  record Turned (t : Table) (budget : ℕ) (d : Drained) : Type 0 where
+  record AgreeingDrain (t : Table) (budget : ℕ) (d : Drained) : Type 0 where
     chain : Moves p t (d .moves) (d .table)
     agrees : Agrees p (d .table)
     ended : Ended p t budget d (d .end)
@@ -68,8 +71,8 @@ module _ (p : Plan) (sound : Sound p) where
   emptied-table : (t : Table) → Agrees p t → jobsOf t ≡ [] → t ≡ emptyTable
   emptied-table t agrees e = table-of-jobs p t agrees ∙ ap tableOf e
 
-  turned-empty : (t : Table) (budget : ℕ) → Agrees p t → jobsOf t ≡ [] → Turned t budget (stopped Emptied t)
-  turned-empty t budget agrees e =
+  drain-of-empty : (t : Table) (budget : ℕ) → Agrees p t → jobsOf t ≡ [] → AgreeingDrain t budget (stopped Emptied t)
+  drain-of-empty t budget agrees e =
       record { chain = stay; agrees = agrees; ended = (sound, agrees, omega arith, emptied-table t agrees e) }
 
   -- one more move before the same end
@@ -80,19 +83,19 @@ module _ (p : Plan) (sound : Sound p) where
   longer t u budget d OutOfBudget agrees h k = (sound, agrees, ap suc (h .2), h .3)
   longer t u budget d NoMove agrees h k = (sound, agrees, omega (arith, h .2), h .3, h .4)
 
-  turned : (budget : ℕ) (t : Table) → Agrees p t → Turned t budget (drainFrom p budget t)
+  drain-agreeing : (budget : ℕ) (t : Table) → Agrees p t → AgreeingDrain t budget (drainFrom p budget t)
   unfolding drainFrom
-  turned zero t agrees = step (empty-or-not (jobsOf t))
+  drain-agreeing zero t agrees = step (empty-or-not (jobsOf t))
     where
-      step : ((jobsOf t ≡ []) × (isEmpty (jobsOf t) ≡ true)) ⊎ ((jobsOf t ≢ []) × (isEmpty (jobsOf t) ≡ false)) → Turned t 0 (cond (isEmpty (jobsOf t)) (stopped Emptied t) (stopped OutOfBudget t))
-      step (inl h) = rw (h .1) (turned-empty t 0 agrees (h .0))
+      step : EmptyOrNot (jobsOf t) → AgreeingDrain t 0 (drainFrom p 0 t)
+      step (inl h) = rw (h .1) (drain-of-empty t 0 agrees (h .0))
       step (inr h) = rw (h .1) (record { chain = stay; agrees = agrees; ended = (sound, agrees, refl, h .0) })
-  turned (suc budget) t agrees = step (empty-or-not (jobsOf t)) (λ e. turned budget (tableAfter p t e) (agrees-after p t e sound agrees))
+  drain-agreeing (suc budget) t agrees = step (empty-or-not (jobsOf t)) (λ e. drain-agreeing budget (tableAfter p t e) (agrees-after p t e sound agrees))
     where
       further : Event → Drained
       further e = drainFrom p budget (tableAfter p t e)
 
-      choose : (o : Option Event) → jobsOf t ≢ [] → Searched p t (jobsOf t) o → ((e : Event) → Turned (tableAfter p t e) budget (further e)) → Turned t (suc budget) (moved t further o)
+      choose : (o : Option Event) → jobsOf t ≢ [] → Searched p t (jobsOf t) o → ((e : Event) → AgreeingDrain (tableAfter p t e) budget (further e)) → AgreeingDrain t (suc budget) (moved t further o)
       choose none left s rest = record { chain = stay; agrees = agrees; ended = (sound, agrees, omega arith, left, s) }
       choose (some e) left s rest =
           let found : Earliest p t e = record { before = s .0; job = s .1; later = s .2; whole = s .3; move = s .4; admitted = s .5; earlier = s .6 } in
@@ -102,8 +105,8 @@ module _ (p : Plan) (sound : Sound p) where
             ended = longer t (tableAfter p t e) budget (further e) (further e .end) agrees (rest e .ended) (agrees-after p t e sound agrees);
           }
 
-      step : ((jobsOf t ≡ []) × (isEmpty (jobsOf t) ≡ true)) ⊎ ((jobsOf t ≢ []) × (isEmpty (jobsOf t) ≡ false)) → ((e : Event) → Turned (tableAfter p t e) budget (further e)) → Turned t (suc budget) (cond (isEmpty (jobsOf t)) (stopped Emptied t) (moved t further (earliest p t (jobsOf t))))
-      step (inl h) rest = rw (h .1) (turned-empty t (suc budget) agrees (h .0))
+      step : EmptyOrNot (jobsOf t) → ((e : Event) → AgreeingDrain (tableAfter p t e) budget (further e)) → AgreeingDrain t (suc budget) (drainFrom p (suc budget) t)
+      step (inl h) rest = rw (h .1) (drain-of-empty t (suc budget) agrees (h .0))
       step (inr h) rest = rw (h .1) (choose (earliest p t (jobsOf t)) (h .0) (earliest-searched p t (jobsOf t)) rest)
 
 -- the count of a chain of moves is the fall in stages still before the jobs
@@ -137,7 +140,7 @@ drain-rule p t budget = step (decides-sound p) (decides-agrees p t)
     step (failing h) d = unmoved UnsoundPlan (h, refl, refl) (λ rule k. h (rule .sound))
     step (holding h) (failing k) = unmoved Disagreement (h, k, refl, refl) (λ rule a. k a)
     step (holding h) (holding k) =
-        let r = turned p h budget t k in
+        let r = drain-agreeing p h budget t k in
         let count = chain-count p (r .chain) in
         record {
           moves = r .chain;

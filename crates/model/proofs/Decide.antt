@@ -118,19 +118,19 @@ module _ (P : ℕ → Type 0) (f : ℕ → Bool) where
       down : (i : ℕ) × InRange i (suc n) × P i → ((j : ℕ) × InRange j n × P j) ⊎ P (suc n)
       down h = ⊎-elim (λ (k : InRange (h .0) n). inl (h .0, k, h .2)) (λ (e : suc n ≡ h .0). inr (subst⁻¹ P e (h .2))) (at-or-below n (h .0) (h .1))
 
-  -- a search finds nothing where P holds at each number, and else the lowest number at which it does not
-  pub searched : (n : ℕ) → ((i : ℕ) → InRange i n → Decides (P i) (f i)) → ((lowest n f ≡ 0) × ((i : ℕ) → InRange i n → P i)) ⊎ Lowest n P (lowest n f)
+  -- what a search over 1 to n finds: nothing where P holds at each number, and else the lowest at which it does not
+  abbrev Finds : ℕ → ℕ → Type 0
+  Finds n m = ((m ≡ 0) × ((i : ℕ) → InRange i n → P i)) ⊎ Lowest n P m
+
+  searched : (n : ℕ) → ((i : ℕ) → InRange i n → Decides (P i) (f i)) → Finds n (lowest n f)
   searched zero d = inl (refl, λ i h. absurd (omega arith))
   searched (suc n) d = step (searched n (λ i h. d i (omega arith)))
     where
-      top : {b : Bool} → Decides (P (suc n)) b → ((i : ℕ) → InRange i n → P i) → ((cond b 0 (suc n) ≡ 0) × ((i : ℕ) → InRange i (suc n) → P i)) ⊎ Lowest (suc n) P (cond b 0 (suc n))
+      top : {b : Bool} → Decides (P (suc n)) b → ((i : ℕ) → InRange i n → P i) → Finds (suc n) (cond b 0 (suc n))
       top (holding h) all = inl (refl, extend P n all h)
       top (failing h) all = inr (record { within = omega arith; fails = h; below = λ i low high. all i (omega arith) })
 
-      Found : ℕ → Type 0
-      Found m = ((m ≡ 0) × ((i : ℕ) → InRange i (suc n) → P i)) ⊎ Lowest (suc n) P m
-
-      step : ((lowest n f ≡ 0) × ((i : ℕ) → InRange i n → P i)) ⊎ Lowest n P (lowest n f) → Found (cond (eqb (lowest n f) 0) (cond (f (suc n)) 0 (suc n)) (lowest n f))
+      step : Finds n (lowest n f) → Finds (suc n) (lowest (suc n) f)
       step (inl none) = rw (eq-eqb (lowest n f) 0 (none .0)) (top (d (suc n) (omega arith)) (none .1))
       step (inr l) =
           rw (ne-eqb (lowest n f) 0 (λ e. omega (arith, l .within)))

@@ -1,16 +1,17 @@
--- Document 01's starred runs that need no plan text, as rows of one table: what is asked, and the numbers that the
--- paper gives for it.
+-- Document 01's starred runs that need no plan text, and the events of its whole run, as rows of one table: what is asked,
+-- and the numbers that the paper gives for it.
 use Prim.Native.Nat.{ℕ, zero, suc}
 use mathlib.Core.List.{List, [], _∷_, _++_, map}
 use Rattle.model.specs.Upstream.{check, checkNumbers}
 use Rattle.model.specs.Jobs.{rowSum, broken}
 use Rattle.model.specs.declared.Plan.{Plan}
 use Rattle.model.specs.declared.Job.{Job}
-use Rattle.admission.specs.Table.{tableOf, jobsOf}
+use Rattle.admission.specs.Table.{tableOf, jobsOf, emptyTable}
 use Rattle.admission.specs.Events.{answer, tableAfter, answerNumbers}
 use Rattle.admission.specs.Drain.{drain, endNumber}
+use Rattle.admission.specs.declared.Table.{Table}
 use Rattle.admission.specs.declared.Event.{Event}
-use Rattle.admission.specs.declared.Event.the-variants.{Advance}
+use Rattle.admission.specs.declared.Event.the-variants.{Load, Advance, Unload}
 use Rattle.worked.specs.Plans.{crossingWith, crossingPlan, equation40, withoutRows, oneStation, jobsPerStage}
 
 -- what is asked
@@ -19,6 +20,7 @@ pub data Run : Type 0 where
   weighed : Plan → List Job → Run
   drained : Plan → List Job → ℕ → Run
   answered : Plan → List Job → Event → Run
+  followed : Plan → List Event → Run
 
 sums : Plan → List Job → ℕ → List ℕ
 sums p js zero = []
@@ -27,10 +29,19 @@ sums p js (suc w) = sums p js w ++ rowSum p (suc w) js ∷ []
 stagesOf : List Job → List ℕ
 stagesOf js = map (λ (j : Job). j .stage) js
 
+-- of each event its answer, its place and the jobs active afterwards
+lines : Plan → Table → List Event → List ℕ
+lines p t [] = []
+lines p t (e ∷ es) =
+    let a = answerNumbers (answer p t e) in
+    let next = tableAfter p t e in
+    a .0 ∷ a .1 ∷ next .count ∷ lines p next es
+
 -- the numbers that the definitions give: of a check its answer and two places; of jobs against the rows each row's sum
--- and the row broken; of a drain its answer and moves, of an event its answer and place, both with the stages left
+-- and the row broken; of a drain its answer and moves, of an event its answer and place, both with the stages left; of
+-- events from the empty table what is printed of each
 unfoldable pub result : Run → List ℕ
-unfolding sums stagesOf
+unfolding sums stagesOf lines
 result (checked p) = let c = checkNumbers (check p) in c .0 ∷ c .1 ∷ c .2 ∷ []
 result (weighed p js) = sums p js (p .rows) ++ broken p js ∷ []
 result (drained p js budget) =
@@ -39,6 +50,7 @@ result (drained p js budget) =
 result (answered p js e) =
     let a = answerNumbers (answer p (tableOf js) e) in
     a .0 ∷ a .1 ∷ stagesOf (jobsOf (tableAfter p (tableOf js) e))
+result (followed p es) = lines p emptyTable es
 
 pub record Row : Type 0 where
   pub asked : Run
@@ -47,8 +59,12 @@ pub record Row : Type 0 where
 row : Run → List ℕ → Row
 row r xs = record { asked = r; expected = xs }
 
+-- the events of the whole run
+wholeRun : List Event
+wholeRun = Load 7 1 ∷ Load 8 2 ∷ Advance 7 ∷ Load 8 2 ∷ Advance 7 ∷ Load 8 2 ∷ Unload 7 ∷ Load 8 2 ∷ []
+
 unfoldable pub rows : List Row
-unfolding row
+unfolding row wholeRun
 rows =
     row (checked crossingPlan) (0 ∷ 0 ∷ 0 ∷ [])
     ∷ row (checked (crossingWith 2 0)) (25 ∷ 2 ∷ 0 ∷ [])
@@ -62,4 +78,6 @@ rows =
     ∷ row (drained crossingPlan [] 0) (0 ∷ 0 ∷ [])
     ∷ row (drained withoutRows (jobsPerStage 1 1 0 1 1 0) 5) (32 ∷ 0 ∷ 1 ∷ 2 ∷ 1 ∷ 2 ∷ [])
     ∷ row (answered oneStation (jobsPerStage 1 0 0 0 0 0) (Advance 1)) (0 ∷ 0 ∷ 2 ∷ [])
+    ∷ row (followed crossingPlan wholeRun)
+    (0 ∷ 0 ∷ 1 ∷ 19 ∷ 2 ∷ 1 ∷ 0 ∷ 0 ∷ 1 ∷ 19 ∷ 2 ∷ 1 ∷ 0 ∷ 0 ∷ 1 ∷ 18 ∷ 3 ∷ 1 ∷ 0 ∷ 0 ∷ 0 ∷ 0 ∷ 0 ∷ 1 ∷ [])
     ∷ []
