@@ -1,19 +1,18 @@
 -- The drain's law: by induction on the budget each turn makes the earliest admitted move, so the moves form a chain; the
 -- count and the emptying follow from the chain.
-use Prim.Native.Nat.{ℕ, zero, suc, _+_, _≤_, _<_}
+use Prim.Native.Nat.{ℕ, zero, suc, _+_, _≤_}
 use native.Mathlib.Omega.{arith}
 use mathlib.Core.Bool.{Bool, true, false, cond, false≢true}
 use mathlib.Core.List.{List, [], _∷_, _++_}
-use mathlib.Core.Logic.{_≢_, _⊎_, inl, inr, ⊎-elim}
+use mathlib.Core.Logic.{_≢_, _⊎_, inl, inr}
 use mathlib.Core.Option.{Option, none, some}
 use mathlib.Core.Path.{_≡_, refl, sym, ap, subst, subst⁻¹, _∙_}
 use Rattle.model.specs.Numbers.{Each}
-use Rattle.model.specs.Jobs.{overJobs}
 use Rattle.model.specs.Soundness.{Sound, sound}
 use Rattle.model.specs.Upstream.{UpstreamRule}
 use Rattle.model.specs.declared.Plan.{Plan}
 use Rattle.model.specs.declared.Job.{Job}
-use Rattle.model.proofs.Decide.{Decides, holding, failing, holds, fails}
+use Rattle.model.proofs.Decide.{Decides, holding, failing}
 use Rattle.model.proofs.Lists.{each-at}
 use Rattle.model.proofs.Soundness.{decides-sound}
 use Rattle.admission.specs.Table.{jobsOf, tableOf, emptyTable, Agrees, agrees}
@@ -27,7 +26,7 @@ use Rattle.admission.specs.declared.End.the-variants.{Emptied, UnsoundPl
 use Rattle.admission.specs.declared.Drained.{Drained}
 use Rattle.admission.proofs.Tables.{table-of-jobs, decides-agrees}
 use Rattle.admission.proofs.Events.{admitted-or-not, agrees-after}
-use Rattle.admission.proofs.Moves.{move-count, job-moves, MovableJob, movable-job}
+use Rattle.admission.proofs.Moves.{move-count, job-moves, movable-job}
 
 -- what the search over a list of jobs finds: no admitted move, or the first
 abbrev Searched : Plan → Table → List Job → Option Event → Type 0

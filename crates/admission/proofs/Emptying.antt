@@ -1,19 +1,18 @@
 -- The emptying rule: the table and the ledger hold the same jobs through every list, an admitted move is one stage fewer, and the
 -- upstream rule leaves a move while a job remains.
-use Prim.Native.Nat.{ℕ, zero, suc, _+_, _≤_, _<_}
+use Prim.Native.Nat.{_+_}
 use native.Mathlib.Omega.{arith}
-use mathlib.Core.Bool.{Bool, true, false, cond, false≢true}
-use mathlib.Core.List.{List, [], _∷_, _++_}
-use mathlib.Core.Logic.{_≢_, _⊎_, inl, inr, ⊎-elim, _↔_}
+use mathlib.Core.Bool.{false, cond, false≢true}
+use mathlib.Core.List.{List, [], _∷_}
+use mathlib.Core.Logic.{_≢_, ⊎-elim, _↔_}
 use mathlib.Core.Path.{_≡_, refl, sym, ap, subst, _∙_}
 use Rattle.model.specs.Numbers.{Each}
 use Rattle.model.specs.Plan.{demandOf, weightOf}
 use Rattle.model.specs.Jobs.{Active, Agreeing}
 use Rattle.model.specs.Soundness.{Sound}
-use Rattle.model.specs.Upstream.{UpstreamRule, check}
+use Rattle.model.specs.Upstream.{UpstreamRule}
 use Rattle.model.specs.declared.Plan.{Plan}
 use Rattle.model.specs.declared.Job.{Job}
-use Rattle.model.specs.declared.Check.the-variants.{Meets}
 use Rattle.model.proofs.Decide.{AllHold}
 use Rattle.model.proofs.Sums.{over-stages-jobs}
 use Rattle.model.proofs.Jobs.{none-active}
@@ -29,7 +28,7 @@ use Rattle.admission.specs.declared.Event.the-variants.{Load, Advance, U
 use Rattle.admission.specs.declared.Answer.the-variants.{Admitted}
 use Rattle.admission.proofs.Tables.{agreeing-table}
 use Rattle.admission.proofs.Events.{admitted-or-not, admitted-holds, table-refused}
-use Rattle.admission.proofs.Moves.{move-count, job-moves, MovableJob, movable-job}
+use Rattle.admission.proofs.Moves.{move-count, job-moves, movable-job}
 use Rattle.admission.proofs.Ledger.{Consistent, jobs-of-ledger, stateAfter, stays-consistent}
 
 -- no job agrees with any plan

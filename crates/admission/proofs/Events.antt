@@ -1,17 +1,17 @@
 -- Demand 2, of the events' meaning: each computed question decides its worded one where those before it hold, and a number
 -- that is active names one job, so the list after an event is the one that the model names.
-use Prim.Native.Nat.{ℕ, zero, suc, _+_, _≤_, _<_}
+use Prim.Native.Nat.{ℕ, _≤_, _<_}
 use native.Mathlib.Omega.{arith}
-use mathlib.Core.Bool.{Bool, true, false, cond, true≢false, false≢true}
+use mathlib.Core.Bool.{false}
 use mathlib.Core.List.{List, [], _∷_, _++_}
-use mathlib.Core.Logic.{_≢_, _⊎_, inl, inr, ⊎-elim, _↔_}
+use mathlib.Core.Logic.{_⊎_, inl, inr, ⊎-elim}
 use mathlib.Core.Path.{_≡_, refl, sym, ap, subst, subst⁻¹, _∙_}
 use lib.ListN.{length, length-append, length-take}
 use Rattle.model.specs.Limits.{maxNumber, maxJobs}
 use Rattle.model.specs.Numbers.{InRange, Lowest, Each, Distinct}
 use Rattle.model.specs.Questions.{FirstFailure}
 use Rattle.model.specs.Plan.{lengthOf, capacityOf, boundOf}
-use Rattle.model.specs.Jobs.{unitsHeld, rowSum, KeepsCapacities, KeepsRows, Active, isActive, jobOf, loadedJob, advancedJob, loaded, advanced, unloaded, exceeded, broken, Numbered, Placed, Agreeing, numbers}
+use Rattle.model.specs.Jobs.{unitsHeld, rowSum, KeepsCapacities, KeepsRows, Active, jobOf, loadedJob, advancedJob, loaded, advanced, unloaded, exceeded, broken, Numbered, Placed, Agreeing, numbers}
 use Rattle.model.specs.Soundness.{Sound}
 use Rattle.model.specs.declared.Plan.{Plan}
 use Rattle.model.specs.declared.Job.{Job}
@@ -27,7 +27,7 @@ use Rattle.admission.specs.declared.Event.{Event}
 use Rattle.admission.specs.declared.Event.the-variants.{Load, Advance, Unload}
 use Rattle.admission.specs.declared.Answer.{Answer}
 use Rattle.admission.specs.declared.Answer.the-variants.{Admitted, UnsoundPlan, Disagreement, BadNumber, WrongActivity, UnknownType, Full, WrongStage, OverCapacity, RowBroken}
-use Rattle.admission.proofs.Tables.{jobs-of-table, agreeing-table, decides-agrees}
+use Rattle.admission.proofs.Tables.{agreeing-table, decides-agrees}
 
 -- the last two questions, of a list whose jobs stand at stages of the plan
 kept-answers : (p : Plan) (js : List Job) → Each (Placed p) js → Answers isAdmitted (keptQuestions p js) (keptConditions p js)

@@ -1,14 +1,13 @@
 -- The ledger holds the jobs of the table: an admitted event makes the same change to its jobs, and what it takes and gives
 -- back is the change in what the present stages demand.
-use Prim.Native.Nat.{ℕ, _+_, _-_, _≤_, _<_}
+use Prim.Native.Nat.{ℕ, _+_}
 use native.Mathlib.Omega.{arith}
-use mathlib.Core.Bool.{Bool, true, false, cond}
-use mathlib.Core.List.{List, [], _∷_, _++_}
-use mathlib.Core.Logic.{_⊎_, inl, inr, ⊎-elim}
+use mathlib.Core.Bool.{false}
+use mathlib.Core.List.{List}
+use mathlib.Core.Logic.{⊎-elim}
 use mathlib.Core.Path.{_≡_, refl, sym, ap, subst, _∙_}
-use Rattle.model.specs.Numbers.{Each}
-use Rattle.model.specs.Plan.{lengthOf, demandOf}
-use Rattle.model.specs.Jobs.{overStages, unitsHeld, Active, isActive, jobOf, loadedJob, advancedJob, Placed, Agreeing}
+use Rattle.model.specs.Plan.{demandOf}
+use Rattle.model.specs.Jobs.{unitsHeld, Active, jobOf, loadedJob, advancedJob, Placed, Agreeing}
 use Rattle.model.specs.Soundness.{Sound}
 use Rattle.model.specs.declared.Plan.{Plan}
 use Rattle.model.specs.declared.Job.{Job}
@@ -19,7 +18,6 @@ use Rattle.admission.specs.Table.{jobsOf, tableOf, Agrees}
 use Rattle.admission.specs.Events.{HasNext, jobsAfter, ownConditions, answer, isAdmitted, tableAfter}
 use Rattle.admission.specs.Ledger.{Ledger, demandAt, takes, gives, written, entered}
 use Rattle.admission.specs.Run.{State}
-use Rattle.admission.specs.declared.Table.{Table}
 use Rattle.admission.specs.declared.Event.{Event}
 use Rattle.admission.specs.declared.Event.the-variants.{Load, Advance, Unload}
 use Rattle.admission.specs.declared.Answer.the-variants.{Admitted}

@@ -1,26 +1,24 @@
 -- An admitted move is one stage fewer before the jobs, and under the upstream rule some job's move is admitted while a job
 -- remains: the model's list has such a move, and the table's answer follows the model.
-use Prim.Native.Nat.{ℕ, zero, suc, _+_, _-_, _≤_, _<_}
+use Prim.Native.Nat.{_+_, _<_}
 use native.Mathlib.Omega.{arith}
 use mathlib.Core.Bool.{Bool, true, false, cond}
 use mathlib.Core.List.{List, [], _∷_, _++_}
-use mathlib.Core.Logic.{_≢_, _⊎_, inl, inr, ⊎-elim}
-use mathlib.Core.Path.{_≡_, refl, sym, ap, subst, subst⁻¹, _∙_}
-use lib.Dec.{eqb}
+use mathlib.Core.Logic.{_≢_, _⊎_, inl, inr}
+use mathlib.Core.Path.{_≡_, refl, ap, subst, _∙_}
 use borrow.Author.Tests.{eq-eqb, ne-eqb}
 use Rattle.model.specs.Numbers.{Each}
 use Rattle.model.specs.Plan.{lengthOf}
-use Rattle.model.specs.Jobs.{overJobs, KeepsCapacities, KeepsRows, Active, advancedJob, Placed, Agreeing}
-use Rattle.model.specs.Soundness.{Sound}
+use Rattle.model.specs.Jobs.{KeepsCapacities, KeepsRows, Active, advancedJob, Placed}
 use Rattle.model.specs.Upstream.{UpstreamRule}
 use Rattle.model.specs.declared.Plan.{Plan}
 use Rattle.model.specs.declared.Job.{Job}
-use Rattle.model.proofs.Decide.{AllHold, decided, decides-eq, decides-lt}
+use Rattle.model.proofs.Decide.{decided, decides-eq}
 use Rattle.model.proofs.Lists.{each-at}
 use Rattle.model.proofs.Sums.{over-jobs-moved, over-jobs-removed}
 use Rattle.model.proofs.Progress.{removed-keeps-capacities, removed-keeps-rows, Movable, progress}
-use Rattle.admission.specs.Table.{jobsOf, tableOf, Agrees}
-use Rattle.admission.specs.Events.{IsMove, Named, jobsAfter, ownConditions, isLast, answer, tableAfter}
+use Rattle.admission.specs.Table.{jobsOf, Agrees}
+use Rattle.admission.specs.Events.{IsMove, Named, jobsAfter, isLast, answer, tableAfter}
 use Rattle.admission.specs.Drain.{stagesLeft, stagesBefore, moveOf}
 use Rattle.admission.specs.declared.Table.{Table}
 use Rattle.admission.specs.declared.Event.{Event}

@@ -1,13 +1,12 @@
 -- A table that agrees with a plan is the table of its jobs, so what is proved of lists of jobs holds of tables.
 use Prim.Native.Nat.{ℕ, zero, suc, _+_, _-_, _≤_, _<_}
 use native.Mathlib.Omega.{arith}
-use mathlib.Core.Bool.{Bool}
 use mathlib.Core.List.{List, [], _∷_, _++_}
 use mathlib.Core.Path.{_≡_, refl, sym, ap, _∙_}
-use lib.ListN.{length, take, drop, replicate, getD, length-append, length-drop, length-replicate, getD-replicate, take-append-drop}
+use lib.ListN.{length, drop, replicate, getD, length-append, length-drop, length-replicate, take-append-drop}
 use lib.Seq.{take-append-seam, length-take-le, ext-getD, getD-drop}
 use Rattle.model.specs.Limits.{maxJobs}
-use Rattle.model.specs.Numbers.{entry, each}
+use Rattle.model.specs.Numbers.{entry}
 use Rattle.model.specs.Jobs.{noJob, Agreeing}
 use Rattle.model.specs.declared.Plan.{Plan}
 use Rattle.model.specs.declared.Job.{Job}

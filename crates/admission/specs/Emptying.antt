@@ -1,6 +1,6 @@
 -- The emptying rule of document 01 as one statement about every list of events.
 use Prim.Native.Nat.{ℕ, _+_, _≤_}
-use mathlib.Core.List.{List, [], _∷_}
+use mathlib.Core.List.{List, []}
 use mathlib.Core.Path.{_≡_}
 use mathlib.Core.Logic.{_≢_, _↔_}
 use Rattle.model.specs.Numbers.{InRange, Each}
@@ -12,7 +12,7 @@ use Rattle.model.specs.declared.Check.the-variants.{Meets}
 use Rattle.admission.specs.Table.{tableOf, emptyTable}
 use Rattle.admission.specs.Events.{IsMove, answer}
 use Rattle.admission.specs.Drain.{stagesBefore}
-use Rattle.admission.specs.Ledger.{Ledger, emptyLedger}
+use Rattle.admission.specs.Ledger.{emptyLedger}
 use Rattle.admission.specs.Run.{State, run, answers, admittedCount}
 use Rattle.admission.specs.declared.Event.{Event}
 use Rattle.admission.specs.declared.Table.{Table}

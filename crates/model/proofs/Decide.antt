@@ -1,17 +1,16 @@
 -- A test decides a condition: where it passes the condition holds, and where it fails the condition does not. Tests that
 -- are put together as conditions are decide what the conditions say together, so each computed question follows its
 -- worded one part by part.
-use Prim.Native.Nat.{ℕ, zero, suc, _+_, _-_, _≤_, _<_}
+use Prim.Native.Nat.{ℕ, zero, suc, _≤_, _<_}
 use native.Mathlib.Omega.{arith}
-use native.Mathlib.Nat.{not-suc-le-zero, le-of-suc-le-suc}
 use mathlib.Core.Bool.{Bool, true, false, not, cond, _&&_, _||_, true≢false, false≢true}
-use mathlib.Core.List.{List, [], _∷_, _++_, map}
-use mathlib.Core.Logic.{_⊎_, inl, inr, ⊎-elim, _≢_}
+use mathlib.Core.List.{List, [], _∷_}
+use mathlib.Core.Logic.{_⊎_, inl, inr, ⊎-elim}
 use mathlib.Core.Path.{_≡_, refl, sym, subst, subst⁻¹, _∙_}
-use lib.ListN.{getD, drop}
+use lib.ListN.{drop}
 use lib.Dec.{leb, ltb, eqb}
-use borrow.Author.Tests.{ltb-true, ltb-false, leb-true, leb-false, eqb-true, eqb-false, eq-eqb, ne-eqb}
-use Rattle.model.specs.Numbers.{InRange, inRange, entry, sumTo, allTo, someTo, lowest, Lowest, Each, each, Distinct}
+use borrow.Author.Tests.{leb-true, leb-false, eqb-true, eqb-false, eq-eqb, ne-eqb}
+use Rattle.model.specs.Numbers.{InRange, inRange, entry, allTo, someTo, lowest, Lowest, Each, each}
 use Rattle.model.specs.Questions.{Question, Condition, answerOf, FirstFailure}
 
 pub data Decides (P : Type 0) : Bool → Type 0 where

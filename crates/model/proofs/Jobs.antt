@@ -1,21 +1,21 @@
 -- Lists of jobs: a number names one job of a list whose numbers differ, so an event's list is the one that the model
 -- names; and the tests on a list decide whether it agrees with the plan.
-use Prim.Native.Nat.{ℕ, zero, suc, _+_, _≤_, _<_}
+use Prim.Native.Nat.{ℕ, _≤_}
 use native.Mathlib.Omega.{arith}
-use mathlib.Core.Bool.{Bool, true, false, cond, not, _&&_, _||_}
-use mathlib.Core.List.{List, [], _∷_, _++_, map}
+use mathlib.Core.Bool.{false}
+use mathlib.Core.List.{List, [], _∷_, _++_}
 use mathlib.Core.Logic.{_≢_, _⊎_, inl, inr, ⊎-elim}
-use mathlib.Core.Path.{_≡_, refl, sym, ap, subst, subst⁻¹, _∙_}
+use mathlib.Core.Path.{_≡_, refl, sym, ap, subst, _∙_}
 use lib.Dec.{eqb, leb}
 use lib.ListN.{length, length-append}
 use borrow.Author.Tests.{eq-eqb, ne-eqb}
 use Rattle.model.specs.Limits.{maxNumber}
-use Rattle.model.specs.Numbers.{InRange, Lowest, Each, each, Distinct}
-use Rattle.model.specs.Plan.{isStage, capacityOf, boundOf, IsStage, demandOf, weightOf, lengthOf}
-use Rattle.model.specs.Jobs.{noJob, overStages, overJobs, unitsHeld, rowSum, KeepsCapacities, KeepsRows, exceeded, broken, Active, isActive, jobOf, advancedJob, loaded, advanced, unloaded, isNumbered, numbers, Numbered, Placed, Agreeing, distinct, agreeing}
+use Rattle.model.specs.Numbers.{Lowest, Each, Distinct}
+use Rattle.model.specs.Plan.{isStage, capacityOf, boundOf, demandOf, weightOf, lengthOf}
+use Rattle.model.specs.Jobs.{overStages, overJobs, unitsHeld, rowSum, KeepsCapacities, KeepsRows, exceeded, broken, Active, isActive, jobOf, advancedJob, advanced, unloaded, numbers, Numbered, Placed, Agreeing, distinct, agreeing}
 use Rattle.model.specs.declared.Plan.{Plan}
 use Rattle.model.specs.declared.Job.{Job}
-use Rattle.model.proofs.Decide.{Decides, holding, failing, holds, decided, decides-iff, _and_, decides-then, decides-or, decides-not, decides-le, decides-eq, decides-range, decides-each, decides-lowest, lowest-found}
+use Rattle.model.proofs.Decide.{Decides, holding, failing, decides-iff, _and_, decides-then, decides-or, decides-not, decides-le, decides-eq, decides-range, decides-each, decides-lowest, lowest-found}
 use Rattle.model.proofs.Lists.{append-each, each-at, each-removed}
 use Rattle.model.proofs.Sums.{over-stages-jobs}
 

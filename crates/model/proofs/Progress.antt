@@ -1,19 +1,18 @@
 -- Under the upstream rule a list of jobs that keeps the rows always has a move: of all jobs take one whose resource has the
 -- lowest rank. A row that its advance makes grow belongs to a resource of lower rank, so nobody was counted in it.
-use Prim.Native.Nat.{ℕ, zero, suc, _+_, _*_, _≤_, _<_}
+use Prim.Native.Nat.{ℕ, _+_, _*_, _≤_, _<_}
 use native.Mathlib.Nat.{le-refl}
 use native.Mathlib.Omega.{arith}
-use mathlib.Core.Bool.{Bool, true, false}
 use mathlib.Core.List.{List, [], _∷_, _++_}
 use mathlib.Core.Logic.{_≢_, _⊎_, inl, inr, ⊎-elim}
 use mathlib.Core.Path.{_≡_, refl, sym, ap, subst, _∙_}
 use Rattle.model.specs.Numbers.{InRange, sumTo, Each}
-use Rattle.model.specs.Plan.{capacityOf, rankOf, boundOf, lengthOf, IsStage, demandOf, weightOf, Demands}
-use Rattle.model.specs.Jobs.{overStages, overJobs, unitsHeld, rowSum, KeepsCapacities, KeepsRows, advancedJob, Placed, Agreeing}
+use Rattle.model.specs.Plan.{rankOf, boundOf, lengthOf, IsStage, demandOf, weightOf, Demands}
+use Rattle.model.specs.Jobs.{rowSum, KeepsCapacities, KeepsRows, advancedJob, Placed}
 use Rattle.model.specs.Upstream.{RankedUpTo, UpstreamOf, OneUnit, UpstreamRule}
 use Rattle.model.specs.declared.Plan.{Plan}
 use Rattle.model.specs.declared.Job.{Job}
-use Rattle.model.proofs.Decide.{Decides, decided, decides-eq, decides-le}
+use Rattle.model.proofs.Decide.{decided, decides-eq}
 use Rattle.model.proofs.Lists.{each-at, each-moved, each-map, each-both, Least, least-entry}
 use Rattle.model.proofs.Upstream.{decides-upstream}
 use Rattle.model.proofs.Sums.{sum-single, over-stages-jobs, over-stages-moved, over-stages-removed, over-jobs-zero, over-jobs-mono}

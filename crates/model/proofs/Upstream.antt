@@ -1,20 +1,20 @@
 -- Law 3: the check answers 0 exactly when the upstream rule holds, and each refusal names the first question that fails
 -- and the lowest place where it does: each computed question decides its worded one, and the search behind it finds the
 -- lowest place.
-use Prim.Native.Nat.{ℕ, zero, suc, _-_, _≤_}
+use Prim.Native.Nat.{ℕ, _-_, _≤_}
 use native.Mathlib.Omega.{arith}
-use mathlib.Core.Bool.{Bool, true, false, cond, _||_}
-use mathlib.Core.Logic.{_≢_, _↔_}
-use mathlib.Core.Path.{_≡_, refl, ap, _∙_}
+use mathlib.Core.Bool.{Bool, cond, _||_}
+use mathlib.Core.Logic.{_↔_}
+use mathlib.Core.Path.{_≡_, refl, ap}
 use lib.Dec.{eqb}
-use Rattle.model.specs.Numbers.{InRange, inRange, sumTo, Lowest}
+use Rattle.model.specs.Numbers.{InRange, inRange, Lowest}
 use Rattle.model.specs.Questions.{FirstFailure}
 use Rattle.model.specs.Plan.{capacityOf, rankOf, boundOf, lengthOf, demandOf, weightOf}
 use Rattle.model.specs.Upstream.{RankedUpTo, UpstreamOf, OneUnit, OneUnits, UpstreamRow, UpstreamBound, UpstreamRule, checkConditions, rankedUpTo, upstreamOf, oneUnit, faultyStage, faultyType, upstreamRow, faultyRow, faultyBound, checkQuestions, check, isMeets}
 use Rattle.model.specs.declared.Plan.{Plan}
 use Rattle.model.specs.declared.Check.{Check}
-use Rattle.model.specs.declared.Check.the-variants.{Meets, UnsoundPlan, NoRank, NotOneUnit, RowCount, WrongWeight, WrongBound}
-use Rattle.model.proofs.Decide.{Decides, holding, failing, decides-iff, _and_, decides-le, decides-lt, decides-eq, decides-range, extend, decides-all, decides-some, decides-lowest, lowest-found, Answers, AllHold, none, next, first-failure, accepted, all-hold}
+use Rattle.model.specs.declared.Check.the-variants.{Meets, NotOneUnit, WrongWeight, WrongBound}
+use Rattle.model.proofs.Decide.{Decides, holding, failing, decides-iff, _and_, decides-le, decides-lt, decides-eq, decides-range, decides-all, decides-some, decides-lowest, lowest-found, Answers, AllHold, none, next, first-failure, accepted, all-hold}
 use Rattle.model.proofs.Sums.{decides-single}
 use Rattle.model.proofs.Soundness.{decides-stages, decides-sound}
 

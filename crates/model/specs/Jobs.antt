@@ -1,6 +1,6 @@
 -- Jobs in the order they were loaded: what they hold, how a list of them changes, and when it agrees with a plan.
 -- Jobs meet only in the sums below (Condition 4 of source document 003).
-use Prim.Native.Nat.{ℕ, zero, suc, _+_, _*_, _≤_}
+use Prim.Native.Nat.{ℕ, _+_, _*_, _≤_}
 use mathlib.Core.Bool.{Bool, true, false, cond, not, _&&_, _||_}
 use mathlib.Core.List.{List, [], _∷_, _++_, map}
 use mathlib.Core.Path.{_≡_}

@@ -1,7 +1,6 @@
 -- Every row of the table of worked runs holds: antt computes the definitions on it.
-use mathlib.Core.List.{List, map}
+use mathlib.Core.List.{map}
 use mathlib.Core.Path.{_≡_, refl}
-use Prim.Native.Nat.{ℕ}
 use Rattle.model.specs.Plan.{isStage, allStages, stageOf, demandOf, weightOf}
 use Rattle.model.specs.Jobs.{overStages, exceeded, broken, agreeing}
 use Rattle.model.specs.Soundness.{soundStage, soundCounts, soundRanks, soundBeyond, sound}
