@@ -2,7 +2,7 @@
 -- that is active names one job, so the list after an event is the one that the model names.
 use Prim.Native.Nat.{ℕ, _≤_, _<_}
 use native.Mathlib.Omega.{arith}
-use mathlib.Core.Bool.{false}
+use mathlib.Core.Bool.{Bool, false}
 use mathlib.Core.List.{List, [], _∷_, _++_}
 use mathlib.Core.Logic.{_⊎_, inl, inr, ⊎-elim}
 use mathlib.Core.Path.{_≡_, refl, sym, ap, subst, subst⁻¹, _∙_}
@@ -11,11 +11,11 @@ use Rattle.model.specs.Limits.{maxNumber, maxJobs}
 use Rattle.model.specs.Numbers.{InRange, Lowest, Each, Distinct}
 use Rattle.model.specs.Questions.{FirstFailure}
 use Rattle.model.specs.Plan.{lengthOf, capacityOf, boundOf}
-use Rattle.model.specs.Jobs.{unitsHeld, rowSum, KeepsCapacities, KeepsRows, Active, jobOf, loadedJob, advancedJob, loaded, advanced, unloaded, exceeded, broken, Numbered, Placed, Agreeing, numbers}
+use Rattle.model.specs.Jobs.{unitsHeld, rowSum, KeepsCapacities, KeepsRows, Active, jobOf, loadedJob, advancedJob, advanced, unloaded, exceeded, broken, Numbered, Placed, Agreeing, numbers}
 use Rattle.model.specs.Soundness.{Sound}
 use Rattle.model.specs.declared.Plan.{Plan}
 use Rattle.model.specs.declared.Job.{Job}
-use Rattle.model.proofs.Decide.{decides-not, decides-lt, decides-eq, decides-range, Answers, AllHold, none, next, first-failure, accepted, all-hold}
+use Rattle.model.proofs.Decide.{Decides, decides-iff, decides-not, decides-lt, decides-eq, decides-range, Answers, AllHold, done, asked, first-failure, accepted, all-hold}
 use Rattle.model.proofs.Lists.{append-each, each-at, each-removed, each-moved}
 use Rattle.model.proofs.Jobs.{distinct-moved, distinct-removed, distinct-added, Found, found, decides-active, decides-capacities, decides-rows, lowest-exceeded, lowest-broken}
 use Rattle.model.proofs.Progress.{removed-keeps-capacities, removed-keeps-rows}
@@ -29,24 +29,14 @@ use Rattle.admission.specs.declared.Answer.{Answer}
 use Rattle.admission.specs.declared.Answer.the-variants.{Admitted, UnsoundPlan, Disagreement, BadNumber, WrongActivity, UnknownType, Full, WrongStage, OverCapacity, RowBroken}
 use Rattle.admission.proofs.Tables.{agreeing-table, decides-agrees}
 
--- the last two questions, of a list whose jobs stand at stages of the plan
-kept-answers : (p : Plan) (js : List Job) → Each (Placed p) js → Answers isAdmitted (keptQuestions p js) (keptConditions p js)
-kept-answers p js placed =
-    next (decides-capacities p js placed) over refl λ _.
-    next (decides-rows p js placed) broke refl λ _.
-    none
-  where
-    over : (¬ KeepsCapacities p js) → (r : ℕ) × (OverCapacity (exceeded p js) ≡ OverCapacity r) × Lowest (p .resources) (λ (i : ℕ). unitsHeld p i js ≤ capacityOf p i) r
-    over h = (exceeded p js, refl, lowest-exceeded p js placed h)
-
-    broke : (¬ KeepsRows p js) → (w : ℕ) × (RowBroken (broken p js) ≡ RowBroken w) × Lowest (p .rows) (λ (i : ℕ). rowSum p i js ≤ boundOf p i) w
-    broke h = (broken p js, refl, lowest-broken p js placed h)
+-- the type that a load names is one of the plan's
+abbrev TypeOf : Plan → Event → Type 0
+TypeOf p (Load n t) = InRange t (p .types)
+TypeOf p (Advance n) = Unit {0}
+TypeOf p (Unload n) = Unit {0}
 
 -- a list of jobs that agrees with a sound plan
 module _ (p : Plan) (sound : Sound p) (js : List Job) (agreeing : Agreeing p js) where
-  placed-loaded : (n t : ℕ) → InRange t (p .types) → Each (Placed p) (loaded n t js)
-  placed-loaded n t h = append-each (Placed p) js (loadedJob n t ∷ []) (agreeing .placed) ((h, omega (arith, sound .lengths t h)), tt)
-
   module _ (n : ℕ) (a : Active n js) where
     -- what holds of each job of the list holds of each of its parts
     parts : (P : Job → Type 0) → Each P js → Each P (a .before ++ a .job ∷ a .after)
@@ -58,53 +48,94 @@ module _ (p : Plan) (sound : Sound p) (js : List Job) (agreeing : Agreeing p js)
     pub names : Found n js a
     names = found a (agreeing .distinct)
 
-    placed-advanced : HasNext p (a .job) → Each (Placed p) (advanced n js)
-    placed-advanced h =
-        rw (names .advance)
-        (each-moved (Placed p) (a .before) (a .job) (advancedJob (a .job)) (a .after) (placed-job .0, omega arith) (parts (Placed p) (agreeing .placed)))
+    whole-distinct : Distinct (numbers (a .before ++ a .job ∷ a .after))
+    whole-distinct = subst (λ (is : List Job). Distinct (numbers is)) (a .whole) (agreeing .distinct)
 
-    placed-unloaded : Each (Placed p) (unloaded n js)
-    placed-unloaded = rw (names .unload) (each-removed (Placed p) (a .before) (a .job) (a .after) (parts (Placed p) (agreeing .placed)))
+    -- a number names one job, so what is asked of the job found is asked of each that has the number
+    decides-named : (P : Job → Type 0) {b : Bool} → Decides (P (jobOf n js)) b → Decides ((c : Active n js) → P (c .job)) b
+    decides-named P d = decides-iff (λ h c. subst P (found c (agreeing .distinct) .job) h) (λ h. subst⁻¹ P (names .job) (h a)) d
 
-    -- what an unload leaves keeps what the whole list kept
-    unloaded-keeps : KeepsCapacities p (unloaded n js) × KeepsRows p (unloaded n js)
-    unloaded-keeps = (
-      rw (names .unload) (removed-keeps-capacities p (a .before) (a .after) (a .job) placed-job (subst (KeepsCapacities p) (a .whole) (agreeing .capacities))),
-      rw (names .unload) (removed-keeps-rows p (a .before) (a .after) (a .job) placed-job (subst (KeepsRows p) (a .whole) (agreeing .rows))),
-    )
-
-  own-answers : (e : Event) → Answers isAdmitted (ownQuestions p js e) (ownConditions p js e)
-  own-answers (Load n t) =
-      next (decides-range n maxNumber) (λ _. refl) refl λ _.
-      next (decides-not (decides-active n js)) (λ _. refl) refl λ _.
-      next (decides-range t (p .types)) (λ _. refl) refl λ type.
-      next (decides-lt (length js) maxJobs) (λ _. refl) refl λ _.
-      kept-answers p (loaded n t js) (placed-loaded n t type)
-  own-answers (Advance n) =
-      next (decides-range n maxNumber) (λ _. refl) refl λ _.
-      next (decides-active n js) (λ _. refl) refl λ a.
-      next (decides-lt (jobOf n js .stage) (lengthOf p (jobOf n js .kind))) (λ _. refl) refl λ h.
-      kept-answers p (advanced n js) (placed-advanced n a (subst (HasNext p) (names n a .job) h))
-  own-answers (Unload n) =
-      next (decides-range n maxNumber) (λ _. refl) refl λ _.
-      next (decides-active n js) (λ _. refl) refl λ a.
-      next (decides-eq (jobOf n js .stage) (lengthOf p (jobOf n js .kind))) (λ _. refl) refl λ _.
-      kept-answers p (unloaded n js) (placed-unloaded n a)
-
-  -- where its own questions are met an event leads to the jobs that the model names, which agree with the plan
-  pub own-named : (e : Event) → AllHold (ownConditions p js e) → Named p js e (jobsAfter js e)
-  own-named (Load n t) h = refl
-  own-named (Advance n) h =
-      let a = h .1 .0 in
-      (a, subst (HasNext p) (names n a .job) (h .1 .1 .0), names n a .advance)
-  own-named (Unload n) h =
-      let a = h .1 .0 in
-      (a, subst (IsLast p) (names n a .job) (h .1 .1 .0), names n a .unload)
-
+  -- the model names one list, the one that is computed
   named-after : (e : Event) {next : List Job} → Named p js e next → next ≡ jobsAfter js e
   named-after (Load n t) h = h
   named-after (Advance n) h = h .2 ∙ sym (names n (h .0) .advance)
   named-after (Unload n) h = h .2 ∙ sym (names n (h .0) .unload)
+
+  named-advance : (n : ℕ) (a : Active n js) → HasNext p (a .job) → Named p js (Advance n) (advanced n js)
+  named-advance n a h = (a, h, names n a .advance)
+
+  named-unload : (n : ℕ) (a : Active n js) → IsLast p (a .job) → Named p js (Unload n) (unloaded n js)
+  named-unload n a h = (a, h, names n a .unload)
+
+  placed-after : (e : Event) (next : List Job) → TypeOf p e → Named p js e next → Each (Placed p) next
+  placed-after (Load n t) next type h =
+      rw h (append-each (Placed p) js (loadedJob n t ∷ []) (agreeing .placed) ((type, omega (arith, sound .lengths t type)), tt))
+  placed-after (Advance n) next type h =
+      let a = h .0 in
+      rw (h .2)
+      (each-moved (Placed p) (a .before) (a .job) (advancedJob (a .job)) (a .after) (placed-job n a .0, omega (arith, h .1)) (parts n a (Placed p) (agreeing .placed)))
+  placed-after (Unload n) next type h =
+      let a = h .0 in
+      rw (h .2) (each-removed (Placed p) (a .before) (a .job) (a .after) (parts n a (Placed p) (agreeing .placed)))
+
+  -- the last two questions
+  module _ (e : Event) (type : TypeOf p e) (named : Named p js e (jobsAfter js e)) where
+    of-named : (P : List Job → Type 0) → P (jobsAfter js e) → (next : List Job) → Named p js e next → P next
+    of-named P h next k = subst⁻¹ P (named-after e k) h
+
+    decides-after : (P : List Job → Type 0) {b : Bool} → Decides (P (jobsAfter js e)) b → Decides ((next : List Job) → Named p js e next → P next) b
+    decides-after P d = decides-iff (of-named P) (λ h. h (jobsAfter js e) named) d
+
+    placed : Each (Placed p) (jobsAfter js e)
+    placed = placed-after e (jobsAfter js e) type named
+
+    kept-answers : Answers isAdmitted (keptQuestions p (jobsAfter js e)) (keptConditions p js e)
+    kept-answers =
+        asked (decides-after (KeepsCapacities p) (decides-capacities p (jobsAfter js e) placed)) over refl λ _.
+        asked (decides-after (KeepsRows p) (decides-rows p (jobsAfter js e) placed)) broke refl λ _.
+        done
+      where
+        over : (¬ ((next : List Job) → Named p js e next → KeepsCapacities p next)) → (r : ℕ) × (OverCapacity (exceeded p (jobsAfter js e)) ≡ OverCapacity r) × ((next : List Job) → Named p js e next → Lowest (p .resources) (λ (i : ℕ). unitsHeld p i next ≤ capacityOf p i) r)
+        over h =
+            (exceeded p (jobsAfter js e), refl, of-named (λ (l : List Job). Lowest (p .resources) (λ (i : ℕ). unitsHeld p i l ≤ capacityOf p i) (exceeded p (jobsAfter js e))) (lowest-exceeded p (jobsAfter js e) placed (λ keeps. h (of-named (KeepsCapacities p) keeps))))
+
+        broke : (¬ ((next : List Job) → Named p js e next → KeepsRows p next)) → (w : ℕ) × (RowBroken (broken p (jobsAfter js e)) ≡ RowBroken w) × ((next : List Job) → Named p js e next → Lowest (p .rows) (λ (i : ℕ). rowSum p i next ≤ boundOf p i) w)
+        broke h =
+            (broken p (jobsAfter js e), refl, of-named (λ (l : List Job). Lowest (p .rows) (λ (i : ℕ). rowSum p i l ≤ boundOf p i) (broken p (jobsAfter js e))) (lowest-broken p (jobsAfter js e) placed (λ keeps. h (of-named (KeepsRows p) keeps))))
+
+  own-answers : (e : Event) → Answers isAdmitted (ownQuestions p js e) (ownConditions p js e)
+  own-answers (Load n t) =
+      asked (decides-range n maxNumber) (λ _. refl) refl λ _.
+      asked (decides-not (decides-active n js)) (λ _. refl) refl λ _.
+      asked (decides-range t (p .types)) (λ _. refl) refl λ type.
+      asked (decides-lt (length js) maxJobs) (λ _. refl) refl λ _.
+      kept-answers (Load n t) type refl
+  own-answers (Advance n) =
+      asked (decides-range n maxNumber) (λ _. refl) refl λ _.
+      asked (decides-active n js) (λ _. refl) refl λ a.
+      asked (decides-named n a (HasNext p) (decides-lt (jobOf n js .stage) (lengthOf p (jobOf n js .kind)))) (λ _. refl) refl λ h.
+      kept-answers (Advance n) tt (named-advance n a (h a))
+  own-answers (Unload n) =
+      asked (decides-range n maxNumber) (λ _. refl) refl λ _.
+      asked (decides-active n js) (λ _. refl) refl λ a.
+      asked (decides-named n a (IsLast p) (decides-eq (jobOf n js .stage) (lengthOf p (jobOf n js .kind)))) (λ _. refl) refl λ h.
+      kept-answers (Unload n) tt (named-unload n a (h a))
+
+  -- where its own questions are met an event leads to the jobs that the model names, which agree with the plan
+  pub own-named : (e : Event) → AllHold (ownConditions p js e) → Named p js e (jobsAfter js e)
+  own-named (Load n t) h = refl
+  own-named (Advance n) h = named-advance n (h .1 .0) (h .1 .1 .0 (h .1 .0))
+  own-named (Unload n) h = named-unload n (h .1 .0) (h .1 .1 .0 (h .1 .0))
+
+  own-type : (e : Event) → AllHold (ownConditions p js e) → TypeOf p e
+  own-type (Load n t) h = h .1 .1 .0
+  own-type (Advance n) h = tt
+  own-type (Unload n) h = tt
+
+  own-kept : (e : Event) → AllHold (ownConditions p js e) → AllHold (keptConditions p js e)
+  own-kept (Load n t) h = h .1 .1 .1 .1
+  own-kept (Advance n) h = h .1 .1 .1
+  own-kept (Unload n) h = h .1 .1 .1
 
   own-length : (e : Event) → AllHold (ownConditions p js e) → length js ≤ maxJobs → length (jobsAfter js e) ≤ maxJobs
   own-length (Load n t) h few = omega (arith, length-append js (loadedJob n t ∷ []), h .1 .1 .1 .0)
@@ -117,36 +148,40 @@ module _ (p : Plan) (sound : Sound p) (js : List Job) (agreeing : Agreeing p js)
       rw (names n a .unload)
       (omega (arith, length-append (a .before) (a .after), length-append (a .before) (a .job ∷ a .after), ap length (a .whole)))
 
-  pub own-agreeing : (e : Event) → AllHold (ownConditions p js e) → Agreeing p (jobsAfter js e)
-  own-agreeing (Load n t) h =
-      record {
-        numbered = append-each Numbered js (loadedJob n t ∷ []) (agreeing .numbered) (h .0, tt);
-        distinct = distinct-added js (loadedJob n t) (h .1 .0) (agreeing .distinct);
-        placed = placed-loaded n t (h .1 .1 .0);
-        capacities = h .1 .1 .1 .1 .0;
-        rows = h .1 .1 .1 .1 .1 .0;
-      }
-  own-agreeing (Advance n) h =
-      let a = h .1 .0 in
-      let next = subst (HasNext p) (names n a .job) (h .1 .1 .0) in
-      let numbered = parts n a Numbered (agreeing .numbered) in
-      record {
-        numbered = rw (names n a .advance) (each-moved Numbered (a .before) (a .job) (advancedJob (a .job)) (a .after) (each-at Numbered (a .before) (a .job) (a .after) numbered) numbered);
-        distinct = rw (names n a .advance) (distinct-moved (a .before) (a .after) (a .job) (advancedJob (a .job)) refl (subst (λ (js : List Job). Distinct (numbers js)) (a .whole) (agreeing .distinct)));
-        placed = placed-advanced n a next;
-        capacities = h .1 .1 .1 .0;
-        rows = h .1 .1 .1 .1 .0;
-      }
-  own-agreeing (Unload n) h =
+  own-numbered : (e : Event) → AllHold (ownConditions p js e) → Each Numbered (jobsAfter js e)
+  own-numbered (Load n t) h = append-each Numbered js (loadedJob n t ∷ []) (agreeing .numbered) (h .0, tt)
+  own-numbered (Advance n) h =
       let a = h .1 .0 in
       let numbered = parts n a Numbered (agreeing .numbered) in
+      rw (names n a .advance)
+      (each-moved Numbered (a .before) (a .job) (advancedJob (a .job)) (a .after) (each-at Numbered (a .before) (a .job) (a .after) numbered) numbered)
+  own-numbered (Unload n) h =
+      let a = h .1 .0 in
+      rw (names n a .unload) (each-removed Numbered (a .before) (a .job) (a .after) (parts n a Numbered (agreeing .numbered)))
+
+  own-distinct : (e : Event) → AllHold (ownConditions p js e) → Distinct (numbers (jobsAfter js e))
+  own-distinct (Load n t) h = distinct-added js (loadedJob n t) (h .1 .0) (agreeing .distinct)
+  own-distinct (Advance n) h =
+      let a = h .1 .0 in
+      rw (names n a .advance) (distinct-moved (a .before) (a .after) (a .job) (advancedJob (a .job)) refl (whole-distinct n a))
+  own-distinct (Unload n) h =
+      let a = h .1 .0 in
+      rw (names n a .unload) (distinct-removed (a .before) (a .after) (a .job) (whole-distinct n a))
+
+  own-agreeing : (e : Event) → AllHold (ownConditions p js e) → Agreeing p (jobsAfter js e)
+  own-agreeing e h =
       record {
-        numbered = rw (names n a .unload) (each-removed Numbered (a .before) (a .job) (a .after) numbered);
-        distinct = rw (names n a .unload) (distinct-removed (a .before) (a .after) (a .job) (subst (λ (js : List Job). Distinct (numbers js)) (a .whole) (agreeing .distinct)));
-        placed = placed-unloaded n a;
-        capacities = h .1 .1 .1 .0;
-        rows = h .1 .1 .1 .1 .0;
+        numbered = own-numbered e h;
+        distinct = own-distinct e h;
+        placed = placed-after e (jobsAfter js e) (own-type e h) (own-named e h);
+        capacities = own-kept e h .0 (jobsAfter js e) (own-named e h);
+        rows = own-kept e h .1 .0 (jobsAfter js e) (own-named e h);
       }
+
+  own-allowed : (e : Event) → AllHold (ownConditions p js e) → Allowed p js e
+  own-allowed e h =
+      let agrees = own-agreeing e h in
+      record { next = jobsAfter js e; named = own-named e h; capacities = agrees .capacities; rows = agrees .rows }
 
   -- an active number is in range
   active-range : (n : ℕ) → Active n js → InRange n maxNumber
@@ -155,27 +190,35 @@ module _ (p : Plan) (sound : Sound p) (js : List Job) (agreeing : Agreeing p js)
       (each-at Numbered (a .before) (a .job) (a .after) (parts n a Numbered (agreeing .numbered)))
 
   -- a well named event that is allowed meets its own questions
-  allowed-kept : (e : Event) → Allowed p js e → AllHold (keptConditions p (jobsAfter js e))
-  allowed-kept e l =
-      let same = named-after e (l .named) in
-      (subst (KeepsCapacities p) same (l .capacities), (subst (KeepsRows p) same (l .rows), tt))
+  allowed-kept : (e : Event) → Allowed p js e → AllHold (keptConditions p js e)
+  allowed-kept e l = (λ next k. subst (KeepsCapacities p) (same k) (l .capacities), (λ next k. subst (KeepsRows p) (same k) (l .rows), tt))
+    where
+      same : {next : List Job} → Named p js e next → l .next ≡ next
+      same k = named-after e (l .named) ∙ sym (named-after e k)
+
+  same-job : (n : ℕ) (a b : Active n js) → a .job ≡ b .job
+  same-job n a b = sym (names n a .job) ∙ names n b .job
 
   allowed-own : (e : Event) → WellNamed p js e → Allowed p js e → AllHold (ownConditions p js e)
   allowed-own (Load n t) w l = (w .0, (w .1, (w .2, (w .3, allowed-kept (Load n t) l))))
   allowed-own (Advance n) a l =
-      (active-range n a, (a, (subst⁻¹ (HasNext p) (names n (l .named .0) .job) (l .named .1), allowed-kept (Advance n) l)))
+      (active-range n a, (a, (λ b. subst (HasNext p) (same-job n (l .named .0) b) (l .named .1), allowed-kept (Advance n) l)))
   allowed-own (Unload n) a l =
-      (active-range n a, (a, (subst⁻¹ (IsLast p) (names n (l .named .0) .job) (l .named .1), allowed-kept (Unload n) l)))
+      (active-range n a, (a, (λ b. subst (IsLast p) (same-job n (l .named .0) b) (l .named .1), allowed-kept (Unload n) l)))
 
-  own-allowed : (e : Event) → AllHold (ownConditions p js e) → Allowed p js e
-  own-allowed e h =
-      let agrees = own-agreeing e h in
-      record { next = jobsAfter js e; named = own-named e h; capacities = agrees .capacities; rows = agrees .rows }
+  -- what an unload leaves keeps what the whole list kept
+  unload-keeps : (n : ℕ) {next : List Job} → Named p js (Unload n) next → KeepsCapacities p next × KeepsRows p next
+  unload-keeps n h =
+      let a = h .0 in
+      let here = placed-job n a in (
+        rw (h .2) (removed-keeps-capacities p (a .before) (a .after) (a .job) here (subst (KeepsCapacities p) (a .whole) (agreeing .capacities))),
+        rw (h .2) (removed-keeps-rows p (a .before) (a .after) (a .job) here (subst (KeepsRows p) (a .whole) (agreeing .rows))),
+      )
 
 pub event-answers : (p : Plan) (t : Table) (e : Event) → Answers isAdmitted (eventQuestions p t e) (eventConditions p t e)
 event-answers p t e =
-    next (decides-sound p) (λ _. refl) refl λ sound.
-    next (decides-agrees p t) (λ _. refl) refl λ agrees.
+    asked (decides-sound p) (λ _. refl) refl λ sound.
+    asked (decides-agrees p t) (λ _. refl) refl λ agrees.
     own-answers p sound (jobsOf t) (agrees .jobs) e
 
 -- every answer, of any plan, table and event, names the first question that fails, with the lowest resource or row
@@ -247,8 +290,7 @@ unload-below-18 p t n =
     ⊎-elim (λ no. rw (no .1) (omega arith)) (λ agrees.
     ⊎-elim (λ no. rw (no .1) (omega arith)) (λ range.
     ⊎-elim (λ no. rw (no .1) (omega arith)) (λ active.
-    let keeps = unloaded-keeps p (sound .0) (jobsOf t) (agrees .0 .jobs) n (active .0) in
     ⊎-elim (λ no. rw (no .1) (omega arith)) (λ last.
-    ⊎-elim (λ no. absurd (no .0 (keeps .0))) (λ capacities.
-    ⊎-elim (λ no. absurd (no .0 (keeps .1))) (λ rows. rw (rows .1) (omega arith))
+    ⊎-elim (λ no. absurd (no .0 (λ next k. unload-keeps p (sound .0) (jobsOf t) (agrees .0 .jobs) n k .0))) (λ capacities.
+    ⊎-elim (λ no. absurd (no .0 (λ next k. unload-keeps p (sound .0) (jobsOf t) (agrees .0 .jobs) n k .1))) (λ rows. rw (rows .1) (omega arith))
     (capacities .1)) (last .1)) (active .1)) (range .1)) (agrees .1)) (sound .1)) (answer-first-failure p t (Unload n))

@@ -53,7 +53,7 @@ module _ (p : Plan) (sound : Sound p) (l : Ledger) (agreeing : Agreeing p (l .jo
       here = placed-job p sound (l .jobs) agreeing n a
 
       next : HasNext p (a .job)
-      next = subst (HasNext p) (found .job) (h .1 .1 .0)
+      next = h .1 .1 .0 a
 
       balance : (r : ℕ) → l .taken r + takes p (jobOf n (l .jobs)) r ≡ l .given r + gives p (jobOf n (l .jobs)) r + unitsHeld p r (jobsAfter (l .jobs) (Advance n))
       balance r =

@@ -55,22 +55,16 @@ WellNamed p js (Load n t) = InRange n maxNumber × (¬ Active n js) × InRange t
 WellNamed p js (Advance n) = Active n js
 WellNamed p js (Unload n) = Active n js
 
--- the jobs after an event that is admitted
-abbrev pub jobsAfter : List Job → Event → List Job
-jobsAfter js (Load n t) = loaded n t js
-jobsAfter js (Advance n) = advanced n js
-jobsAfter js (Unload n) = unloaded n js
-
--- the event questions as they are worded
-abbrev pub keptConditions : Plan → List Job → List (Condition Answer)
-keptConditions p next =
+-- the event questions as they are worded; the last two are asked of the jobs that the model names
+abbrev pub keptConditions : Plan → List Job → Event → List (Condition Answer)
+keptConditions p js e =
     record {
-      holds = KeepsCapacities p next;
-      refusal = λ a. (r : ℕ) × (a ≡ OverCapacity r) × Lowest (p .resources) (λ (i : ℕ). unitsHeld p i next ≤ capacityOf p i) r;
+      holds = (next : List Job) → Named p js e next → KeepsCapacities p next;
+      refusal = λ a. (r : ℕ) × (a ≡ OverCapacity r) × ((next : List Job) → Named p js e next → Lowest (p .resources) (λ (i : ℕ). unitsHeld p i next ≤ capacityOf p i) r);
     }
     ∷ record {
-      holds = KeepsRows p next;
-      refusal = λ a. (w : ℕ) × (a ≡ RowBroken w) × Lowest (p .rows) (λ (i : ℕ). rowSum p i next ≤ boundOf p i) w;
+      holds = (next : List Job) → Named p js e next → KeepsRows p next;
+      refusal = λ a. (w : ℕ) × (a ≡ RowBroken w) × ((next : List Job) → Named p js e next → Lowest (p .rows) (λ (i : ℕ). rowSum p i next ≤ boundOf p i) w);
     }
     ∷ []
 
@@ -80,22 +74,27 @@ ownConditions p js (Load n t) =
     ∷ asks (¬ Active n js) WrongActivity
     ∷ asks (InRange t (p .types)) UnknownType
     ∷ asks (length js < maxJobs) Full
-    ∷ keptConditions p (jobsAfter js (Load n t))
+    ∷ keptConditions p js (Load n t)
 ownConditions p js (Advance n) =
     asks (InRange n maxNumber) BadNumber
     ∷ asks (Active n js) WrongActivity
-    ∷ asks (HasNext p (jobOf n js)) WrongStage
-    ∷ keptConditions p (jobsAfter js (Advance n))
+    ∷ asks ((a : Active n js) → HasNext p (a .job)) WrongStage
+    ∷ keptConditions p js (Advance n)
 ownConditions p js (Unload n) =
     asks (InRange n maxNumber) BadNumber
     ∷ asks (Active n js) WrongActivity
-    ∷ asks (IsLast p (jobOf n js)) WrongStage
-    ∷ keptConditions p (jobsAfter js (Unload n))
+    ∷ asks ((a : Active n js) → IsLast p (a .job)) WrongStage
+    ∷ keptConditions p js (Unload n)
 
 abbrev pub eventConditions : Plan → Table → Event → List (Condition Answer)
 eventConditions p t e = asks (Sound p) UnsoundPlan ∷ asks (Agrees p t) Disagreement ∷ ownConditions p (jobsOf t) e
 
--- the same, computed
+-- the same, computed: the jobs after an event, and its questions
+abbrev pub jobsAfter : List Job → Event → List Job
+jobsAfter js (Load n t) = loaded n t js
+jobsAfter js (Advance n) = advanced n js
+jobsAfter js (Unload n) = unloaded n js
+
 abbrev pub keptQuestions : Plan → List Job → List (Question Answer)
 keptQuestions p next = ask (eqb (exceeded p next) 0) (OverCapacity (exceeded p next)) ∷ ask (eqb (broken p next) 0) (RowBroken (broken p next)) ∷ []
 

@@ -193,8 +193,8 @@ module _ {A : Type 0} {P : A → Type 0} {f : A → Bool} (d : (x : A) → Decid
 -- Questions that are computed answer questions that are worded: each is decided where those before it hold, its refusal
 -- says what it should, and no refusal is the acceptance.
 pub data Answers {A : Type 0} (isOk : A → Bool) : List (Question A) → List (Condition A) → Type 1 where
-  none : Answers isOk [] []
-  next : {q : Question A} {c : Condition A} {qs : List (Question A)} {cs : List (Condition A)} → Decides (c .holds) (q .met) → ((¬ c .holds) → c .refusal (q .refusal)) → isOk (q .refusal) ≡ false → (c .holds → Answers isOk qs cs) → Answers isOk (q ∷ qs) (c ∷ cs)
+  done : Answers isOk [] []
+  asked : {q : Question A} {c : Condition A} {qs : List (Question A)} {cs : List (Condition A)} → Decides (c .holds) (q .met) → ((¬ c .holds) → c .refusal (q .refusal)) → isOk (q .refusal) ≡ false → (c .holds → Answers isOk qs cs) → Answers isOk (q ∷ qs) (c ∷ cs)
 
 abbrev pub AllHold : {A : Type 0} → List (Condition A) → Type 0
 AllHold [] = Unit {0}
@@ -206,17 +206,17 @@ module _ {A : Type 0} (isOk : A → Bool) (ok : A) where
   choose F R x y (failing h) refusal rest = inl (h, refusal h)
 
   pub first-failure : {qs : List (Question A)} {cs : List (Condition A)} → Answers isOk qs cs → FirstFailure ok cs (answerOf ok qs)
-  first-failure none = refl
-  first-failure (next {q} {c} {qs} {cs} d r o rest) =
+  first-failure done = refl
+  first-failure (asked {q} {c} {qs} {cs} d r o rest) =
       choose (FirstFailure ok cs) (c .refusal) (answerOf ok qs) (q .refusal) d r (λ h. first-failure (rest h))
 
   pub accepted : {qs : List (Question A)} {cs : List (Condition A)} → Answers isOk qs cs → AllHold cs → answerOf ok qs ≡ ok
-  accepted none h = refl
-  accepted (next {q} {c} {qs} {cs} d r o rest) h = rw (passes d (h .0)) (accepted (rest (h .0)) (h .1))
+  accepted done h = refl
+  accepted (asked {q} {c} {qs} {cs} d r o rest) h = rw (passes d (h .0)) (accepted (rest (h .0)) (h .1))
 
   pub all-hold : {qs : List (Question A)} {cs : List (Condition A)} → Answers isOk qs cs → isOk (answerOf ok qs) ≡ true → AllHold cs
-  all-hold none h = tt
-  all-hold (next {q} {c} {qs} {cs} d r o rest) h = step (λ k. all-hold (rest k)) d h
+  all-hold done h = tt
+  all-hold (asked {q} {c} {qs} {cs} d r o rest) h = step (λ k. all-hold (rest k)) d h
     where
       step : (c .holds → isOk (answerOf ok qs) ≡ true → AllHold cs) → {b : Bool} → Decides (c .holds) b → isOk (cond b (answerOf ok qs) (q .refusal)) ≡ true → c .holds × AllHold cs
       step later (holding k) accepted = (k, later k accepted)

@@ -14,7 +14,7 @@ use Rattle.model.specs.Upstream.{RankedUpTo, UpstreamOf, OneUnit, OneUni
 use Rattle.model.specs.declared.Plan.{Plan}
 use Rattle.model.specs.declared.Check.{Check}
 use Rattle.model.specs.declared.Check.the-variants.{Meets, NotOneUnit, WrongWeight, WrongBound}
-use Rattle.model.proofs.Decide.{Decides, holding, failing, decides-iff, _and_, decides-le, decides-lt, decides-eq, decides-range, decides-all, decides-some, decides-lowest, lowest-found, Answers, AllHold, none, next, first-failure, accepted, all-hold}
+use Rattle.model.proofs.Decide.{Decides, holding, failing, decides-iff, _and_, decides-le, decides-lt, decides-eq, decides-range, decides-all, decides-some, decides-lowest, lowest-found, Answers, AllHold, done, asked, first-failure, accepted, all-hold}
 use Rattle.model.proofs.Sums.{decides-single}
 use Rattle.model.proofs.Soundness.{decides-stages, decides-sound}
 
@@ -61,13 +61,13 @@ module _ (p : Plan) where
   pub check-answers : Answers isMeets (checkQuestions p) (checkConditions p)
   unfolding faultyType faultyStage faultyRow faultyBound
   check-answers =
-      next (decides-sound p) (λ _. refl) refl λ _.
-      next (decides-all _ _ (p .resources) (λ r _. decides-le 1 (rankOf p r))) (λ _. refl) refl λ _.
-      next (decides-lowest _ _ (p .types) types) (λ no. faulty-stage (lowest-found _ _ (p .types) types no)) refl λ _.
-      next (decides-eq (p .rows) (p .resources)) (λ _. refl) refl λ _.
-      next (decides-lowest _ _ (p .rows) rows) (λ no. faulty-place WrongWeight (lowest-found _ _ (p .rows) rows no)) refl λ _.
-      next (decides-lowest _ _ (p .rows) bounds) (λ no. faulty-place WrongBound (lowest-found _ _ (p .rows) bounds no)) refl λ _.
-      none
+      asked (decides-sound p) (λ _. refl) refl λ _.
+      asked (decides-all _ _ (p .resources) (λ r _. decides-le 1 (rankOf p r))) (λ _. refl) refl λ _.
+      asked (decides-lowest _ _ (p .types) types) (λ no. faulty-stage (lowest-found _ _ (p .types) types no)) refl λ _.
+      asked (decides-eq (p .rows) (p .resources)) (λ _. refl) refl λ _.
+      asked (decides-lowest _ _ (p .rows) rows) (λ no. faulty-place WrongWeight (lowest-found _ _ (p .rows) rows no)) refl λ _.
+      asked (decides-lowest _ _ (p .rows) bounds) (λ no. faulty-place WrongBound (lowest-found _ _ (p .rows) bounds no)) refl λ _.
+      done
     where
       stages : (t k : ℕ) → InRange k (lengthOf p t) → Decides (OneUnit p t k) (oneUnit p t k)
       stages t k _ = decides-one-unit p t k
