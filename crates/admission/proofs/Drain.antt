@@ -17,7 +17,7 @@ use Rattle.model.proofs.Lists.{each-at}
 use Rattle.model.proofs.Soundness.{decides-sound}
 use Rattle.admission.specs.Table.{jobsOf, tableOf, emptyTable, Agrees, agrees}
 use Rattle.admission.specs.Events.{IsMove, answer, isAdmitted, tableAfter}
-use Rattle.admission.specs.Drain.{stagesBefore, moveOf, Earliest, Moves, stay, move, earliest, isEmpty, stopped, oneMore, moved, drainFrom, drain, Ended, DrainRule}
+use Rattle.admission.specs.Drain.{stagesBefore, moveOf, Blocked, Earliest, Moves, stay, move, earliest, isEmpty, stopped, oneMore, moved, drainFrom, drain, Ended, DrainRule}
 use Rattle.admission.specs.declared.Table.{Table}
 use Rattle.admission.specs.declared.Event.{Event}
 use Rattle.admission.specs.declared.Answer.the-variants.{Admitted}
@@ -30,28 +30,28 @@ use Rattle.admission.proofs.Moves.{move-count, job-moves, movable-job}
 
 -- what the search over a list of jobs finds: no admitted move, or the first
 abbrev Searched : Plan → Table → List Job → Option Event → Type 0
-Searched p t js none = Each (λ (j : Job). answer p t (moveOf p j) ≢ Admitted) js
+Searched p t js none = Each (Blocked p t) js
 Searched p t js (some e) =
     (before : List Job) × (job : Job) × (later : List Job)
     × (js ≡ before ++ job ∷ later)
     × (e ≡ moveOf p job)
     × (answer p t e ≡ Admitted)
-    × Each (λ (j : Job). answer p t (moveOf p j) ≢ Admitted) before
+    × Each (Blocked p t) before
 
 earliest-searched : (p : Plan) (t : Table) (js : List Job) → Searched p t js (earliest p t js)
 earliest-searched p t [] = tt
 earliest-searched p t (j ∷ js) = step (admitted-or-not (answer p t (moveOf p j))) (earliest-searched p t js)
   where
-    refused : isAdmitted (answer p t (moveOf p j)) ≡ false → answer p t (moveOf p j) ≢ Admitted
-    refused h e = false≢true (sym h ∙ ap isAdmitted e)
+    blocked : isAdmitted (answer p t (moveOf p j)) ≡ false → Blocked p t j
+    blocked h e = false≢true (sym h ∙ ap isAdmitted e)
 
-    later : (o : Option Event) → answer p t (moveOf p j) ≢ Admitted → Searched p t js o → Searched p t (j ∷ js) o
-    later none not s = (not, s)
-    later (some e) not s = (j ∷ s .0, s .1, s .2, ap (λ (is : List Job). j ∷ is) (s .3), s .4, s .5, (not, s .6))
+    later : (o : Option Event) → Blocked p t j → Searched p t js o → Searched p t (j ∷ js) o
+    later none b s = (b, s)
+    later (some e) b s = (j ∷ s .0, s .1, s .2, ap (λ (is : List Job). j ∷ is) (s .3), s .4, s .5, (b, s .6))
 
     step : (answer p t (moveOf p j) ≡ Admitted) ⊎ (isAdmitted (answer p t (moveOf p j)) ≡ false) → Searched p t js (earliest p t js) → Searched p t (j ∷ js) (earliest p t (j ∷ js))
     step (inl h) s = rw (ap isAdmitted h) ([], j, js, refl, refl, h, tt)
-    step (inr h) s = rw h (later (earliest p t js) (refused h) s)
+    step (inr h) s = rw h (later (earliest p t js) (blocked h) s)
 
 abbrev EmptyOrNot : List Job → Type 0
 EmptyOrNot js = ((js ≡ []) × (isEmpty js ≡ true)) ⊎ ((js ≢ []) × (isEmpty js ≡ false))
@@ -114,19 +114,21 @@ chain-count p stay = omega arith
 chain-count p (move {t} {u} {n} e found rest) =
     omega (arith, chain-count p rest, move-count p t e (subst⁻¹ IsMove (found .move) (job-moves p (found .job))) (found .admitted))
 
--- under the upstream rule a drain stops with jobs only for want of budget
-ended-empty : (p : Plan) (t : Table) (budget : ℕ) (d : Drained) → UpstreamRule p → Agrees p (d .table) → stagesBefore p (jobsOf t) ≤ budget → d .moves + stagesBefore p (jobsOf (d .table)) ≡ stagesBefore p (jobsOf t) → (end : End) → Agrees p t → Ended p t budget d end → (end ≡ Emptied) × (d .table ≡ emptyTable)
-ended-empty p t budget d rule agrees enough count Emptied first h = (refl, h .3)
-ended-empty p t budget d rule agrees enough count UnsoundPlan first h = absurd (h .0 (rule .sound))
-ended-empty p t budget d rule agrees enough count Disagreement first h = absurd (h .1 first)
-ended-empty p t budget d rule agrees enough count OutOfBudget first h = absurd (remain (jobsOf (d .table)) refl)
-  where
-    remain : (js : List Job) → jobsOf (d .table) ≡ js → ⊥
-    remain [] e = h .3 e
-    remain (j ∷ js) e = omega (arith, ap (stagesBefore p) e, h .2, count, enough)
-ended-empty p t budget d rule agrees enough count NoMove first h =
-    let o = movable-job p (d .table) rule agrees (h .3) in
-    absurd (each-at (λ (j : Job). answer p (d .table) (moveOf p j) ≢ Admitted) (o .before) (o .job) (o .later) (subst (Each (λ (j : Job). answer p (d .table) (moveOf p j) ≢ Admitted)) (o .whole) (h .4)) (o .admitted))
+-- under the upstream rule a drain with budget enough stops with no job left
+module _ (p : Plan) (rule : UpstreamRule p) (t : Table) (first : Agrees p t) (budget : ℕ) (d : Drained) where
+  ended-empty : Agrees p (d .table) → d .moves + stagesBefore p (jobsOf (d .table)) ≤ budget → (end : End) → Ended p t budget d end → (end ≡ Emptied) × (d .table ≡ emptyTable)
+  ended-empty agrees enough Emptied h = (refl, h .3)
+  ended-empty agrees enough UnsoundPlan h = absurd (h .0 (rule .sound))
+  ended-empty agrees enough Disagreement h = absurd (h .1 first)
+  ended-empty agrees enough OutOfBudget h = absurd (remain (jobsOf (d .table)) refl)
+    where
+      remain : (js : List Job) → jobsOf (d .table) ≡ js → ⊥
+      remain [] e = h .3 e
+      remain (j ∷ js) e = omega (arith, ap (stagesBefore p) e, h .2, enough)
+  ended-empty agrees enough NoMove h =
+      let o = movable-job p (d .table) rule agrees (h .3) in
+      let blocked = subst (Each (Blocked p (d .table))) (o .whole) (h .4) in
+      absurd (each-at (Blocked p (d .table)) (o .before) (o .job) (o .later) blocked (o .admitted))
 
 pub drain-rule : (p : Plan) (t : Table) (budget : ℕ) → DrainRule p t budget (drain p t budget)
 unfolding drain
@@ -145,5 +147,5 @@ drain-rule p t budget = step (decides-sound p) (decides-agrees p t)
           moves = r .chain;
           ended = r .ended;
           count = count;
-          empties = λ rule a enough. ended-empty p t budget (drainFrom p budget t) rule (r .agrees) enough count (drainFrom p budget t .end) a (r .ended);
+          empties = λ rule a enough. ended-empty p rule t a budget (drainFrom p budget t) (r .agrees) (omega (arith, count)) (drainFrom p budget t .end) (r .ended);
         }

@@ -10,8 +10,8 @@ use lib.ListN.{length, length-append, length-take}
 use Rattle.model.specs.Limits.{maxNumber, maxJobs}
 use Rattle.model.specs.Numbers.{InRange, Lowest, Each, Distinct}
 use Rattle.model.specs.Questions.{FirstFailure}
-use Rattle.model.specs.Plan.{lengthOf, capacityOf, boundOf}
-use Rattle.model.specs.Jobs.{unitsHeld, rowSum, KeepsCapacities, KeepsRows, Active, jobOf, loadedJob, advancedJob, advanced, unloaded, exceeded, broken, Numbered, Placed, Agreeing, numbers}
+use Rattle.model.specs.Plan.{lengthOf}
+use Rattle.model.specs.Jobs.{KeepsCapacities, KeepsRows, Exceeded, Broken, Active, jobOf, loadedJob, advancedJob, advanced, unloaded, exceeded, broken, Numbered, Placed, Agreeing, numbers}
 use Rattle.model.specs.Soundness.{Sound}
 use Rattle.model.specs.declared.Plan.{Plan}
 use Rattle.model.specs.declared.Job.{Job}
@@ -21,7 +21,7 @@ use Rattle.model.proofs.Jobs.{distinct-moved, distinct-removed, distinct-added,
 use Rattle.model.proofs.Progress.{removed-keeps-capacities, removed-keeps-rows}
 use Rattle.model.proofs.Soundness.{decides-sound}
 use Rattle.admission.specs.Table.{jobsOf, tableOf, Agrees}
-use Rattle.admission.specs.Events.{HasNext, IsLast, Named, Allowed, WellNamed, jobsAfter, keptConditions, ownConditions, eventConditions, keptQuestions, ownQuestions, eventQuestions, answer, isAdmitted, tableAfter, Judged, answerNumbers}
+use Rattle.admission.specs.Events.{HasNext, IsLast, Named, Allowed, WellNamed, Afterwards, jobsAfter, keptConditions, ownConditions, eventConditions, keptQuestions, ownQuestions, eventQuestions, answer, isAdmitted, tableAfter, Judged, answerNumbers}
 use Rattle.admission.specs.declared.Table.{Table}
 use Rattle.admission.specs.declared.Event.{Event}
 use Rattle.admission.specs.declared.Event.the-variants.{Load, Advance, Unload}
@@ -78,30 +78,24 @@ module _ (p : Plan) (sound : Sound p) (js : List Job) (agreeing : Agreeing p js)
       let a = h .0 in
       rw (h .2) (each-removed (Placed p) (a .before) (a .job) (a .after) (parts n a (Placed p) (agreeing .placed)))
 
-  -- the last two questions
+  -- the last two questions: what holds of the list computed holds of the list named
   module _ (e : Event) (type : TypeOf p e) (named : Named p js e (jobsAfter js e)) where
-    of-named : (P : List Job → Type 0) → P (jobsAfter js e) → (next : List Job) → Named p js e next → P next
-    of-named P h next k = subst⁻¹ P (named-after e k) h
+    afterwards : (P : List Job → Type 0) → P (jobsAfter js e) → Afterwards p js e P
+    afterwards P h next k = subst⁻¹ P (named-after e k) h
 
-    decides-after : (P : List Job → Type 0) {b : Bool} → Decides (P (jobsAfter js e)) b → Decides ((next : List Job) → Named p js e next → P next) b
-    decides-after P d = decides-iff (of-named P) (λ h. h (jobsAfter js e) named) d
+    decides-after : (P : List Job → Type 0) {b : Bool} → Decides (P (jobsAfter js e)) b → Decides (Afterwards p js e P) b
+    decides-after P d = decides-iff (afterwards P) (λ h. h (jobsAfter js e) named) d
 
-    placed : Each (Placed p) (jobsAfter js e)
-    placed = placed-after e (jobsAfter js e) type named
+    place-after : (refusal : ℕ → Answer) (P : List Job → Type 0) (Lowest : List Job → ℕ → Type 0) (i : ℕ) → ((¬ P (jobsAfter js e)) → Lowest (jobsAfter js e) i) → (¬ Afterwards p js e P) → (r : ℕ) × (refusal i ≡ refusal r) × Afterwards p js e (λ (next : List Job). Lowest next r)
+    place-after refusal P Lowest i found h = (i, refl, afterwards (λ (l : List Job). Lowest l i) (found (λ k. h (afterwards P k))))
 
     kept-answers : Answers isAdmitted (keptQuestions p (jobsAfter js e)) (keptConditions p js e)
     kept-answers =
-        asked (decides-after (KeepsCapacities p) (decides-capacities p (jobsAfter js e) placed)) over refl λ _.
-        asked (decides-after (KeepsRows p) (decides-rows p (jobsAfter js e) placed)) broke refl λ _.
+        let l = jobsAfter js e in
+        let placed = placed-after e l type named in
+        asked (decides-after (KeepsCapacities p) (decides-capacities p l placed)) (place-after OverCapacity (KeepsCapacities p) (Exceeded p) (exceeded p l) (lowest-exceeded p l placed)) refl λ _.
+        asked (decides-after (KeepsRows p) (decides-rows p l placed)) (place-after RowBroken (KeepsRows p) (Broken p) (broken p l) (lowest-broken p l placed)) refl λ _.
         done
-      where
-        over : (¬ ((next : List Job) → Named p js e next → KeepsCapacities p next)) → (r : ℕ) × (OverCapacity (exceeded p (jobsAfter js e)) ≡ OverCapacity r) × ((next : List Job) → Named p js e next → Lowest (p .resources) (λ (i : ℕ). unitsHeld p i next ≤ capacityOf p i) r)
-        over h =
-            (exceeded p (jobsAfter js e), refl, of-named (λ (l : List Job). Lowest (p .resources) (λ (i : ℕ). unitsHeld p i l ≤ capacityOf p i) (exceeded p (jobsAfter js e))) (lowest-exceeded p (jobsAfter js e) placed (λ keeps. h (of-named (KeepsCapacities p) keeps))))
-
-        broke : (¬ ((next : List Job) → Named p js e next → KeepsRows p next)) → (w : ℕ) × (RowBroken (broken p (jobsAfter js e)) ≡ RowBroken w) × ((next : List Job) → Named p js e next → Lowest (p .rows) (λ (i : ℕ). rowSum p i next ≤ boundOf p i) w)
-        broke h =
-            (broken p (jobsAfter js e), refl, of-named (λ (l : List Job). Lowest (p .rows) (λ (i : ℕ). rowSum p i l ≤ boundOf p i) (broken p (jobsAfter js e))) (lowest-broken p (jobsAfter js e) placed (λ keeps. h (of-named (KeepsRows p) keeps))))
 
   own-answers : (e : Event) → Answers isAdmitted (ownQuestions p js e) (ownConditions p js e)
   own-answers (Load n t) =

@@ -34,6 +34,10 @@ stagesBefore p js = overJobs (stagesLeft p) js
 abbrev pub moveOf : Plan → Job → Event
 moveOf p j = cond (isLast p j) (Unload (j .number)) (Advance (j .number))
 
+-- the job's move is not admitted
+abbrev pub Blocked : Plan → Table → Job → Type 0
+Blocked p t j = answer p t (moveOf p j) ≢ Admitted
+
 -- the move is that of the earliest loaded job for which it is admitted
 pub record Earliest (p : Plan) (t : Table) (e : Event) : Type 0 where
   pub before : List Job
@@ -42,7 +46,7 @@ pub record Earliest (p : Plan) (t : Table) (e : Event) : Type 0 where
   pub whole : jobsOf t ≡ before ++ job ∷ later
   pub move : e ≡ moveOf p job
   pub admitted : answer p t e ≡ Admitted
-  pub earlier : Each (λ (j : Job). answer p t (moveOf p j) ≢ Admitted) before
+  pub earlier : Each (Blocked p t) before
 
 -- that many such moves lead from one table to another
 pub data Moves (p : Plan) : Table → ℕ → Table → Type 0 where
@@ -89,7 +93,7 @@ Ended p t budget d NoMove =
     × Agrees p t
     × (d .moves < budget)
     × (jobsOf (d .table) ≢ [])
-    × Each (λ (j : Job). answer p (d .table) (moveOf p j) ≢ Admitted) (jobsOf (d .table))
+    × Each (Blocked p (d .table)) (jobsOf (d .table))
 
 -- the Drain section of document 01: each move is the earliest admitted one, the end is right, the count is the fall in
 -- stages still before the jobs, and under the upstream rule a budget of as many moves empties the cell

@@ -1,5 +1,5 @@
 -- The events: what the model allows of them, and what is answered, question by question in document 01's order.
-use Prim.Native.Nat.{ℕ, _≤_, _<_}
+use Prim.Native.Nat.{ℕ, _<_}
 use mathlib.Core.Bool.{Bool, not, cond}
 use mathlib.Core.List.{List, [], _∷_, _++_}
 use mathlib.Core.Logic.{_≢_, _↔_}
@@ -7,10 +7,10 @@ use mathlib.Core.Path.{_≡_}
 use lib.ListN.{length}
 use lib.Dec.{ltb, eqb}
 use Rattle.model.specs.Limits.{maxNumber, maxJobs}
-use Rattle.model.specs.Numbers.{InRange, inRange, Lowest}
+use Rattle.model.specs.Numbers.{InRange, inRange}
 use Rattle.model.specs.Questions.{Question, Condition, ask, asks, answerOf, FirstFailure}
-use Rattle.model.specs.Plan.{lengthOf, capacityOf, boundOf}
-use Rattle.model.specs.Jobs.{unitsHeld, rowSum, KeepsCapacities, KeepsRows, Active, isActive, jobOf, loadedJob, advancedJob, loaded, advanced, unloaded, exceeded, broken}
+use Rattle.model.specs.Plan.{lengthOf}
+use Rattle.model.specs.Jobs.{KeepsCapacities, KeepsRows, Exceeded, Broken, Active, isActive, jobOf, loadedJob, advancedJob, loaded, advanced, unloaded, exceeded, broken}
 use Rattle.model.specs.Soundness.{Sound, sound}
 use Rattle.model.specs.declared.Plan.{Plan}
 use Rattle.model.specs.declared.Job.{Job}
@@ -55,16 +55,20 @@ WellNamed p js (Load n t) = InRange n maxNumber × (¬ Active n js) × InRange t
 WellNamed p js (Advance n) = Active n js
 WellNamed p js (Unload n) = Active n js
 
--- the event questions as they are worded; the last two are asked of the jobs that the model names
+-- P holds of the jobs that the model names after the event
+abbrev pub Afterwards : Plan → List Job → Event → (List Job → Type 0) → Type 0
+Afterwards p js e P = (next : List Job) → Named p js e next → P next
+
+-- the event questions as they are worded: what is asked, and what the refusal says
 abbrev pub keptConditions : Plan → List Job → Event → List (Condition Answer)
 keptConditions p js e =
     record {
-      holds = (next : List Job) → Named p js e next → KeepsCapacities p next;
-      refusal = λ a. (r : ℕ) × (a ≡ OverCapacity r) × ((next : List Job) → Named p js e next → Lowest (p .resources) (λ (i : ℕ). unitsHeld p i next ≤ capacityOf p i) r);
+      holds = Afterwards p js e (KeepsCapacities p);
+      refusal = λ a. (r : ℕ) × (a ≡ OverCapacity r) × Afterwards p js e (λ (next : List Job). Exceeded p next r);
     }
     ∷ record {
-      holds = (next : List Job) → Named p js e next → KeepsRows p next;
-      refusal = λ a. (w : ℕ) × (a ≡ RowBroken w) × ((next : List Job) → Named p js e next → Lowest (p .rows) (λ (i : ℕ). rowSum p i next ≤ boundOf p i) w);
+      holds = Afterwards p js e (KeepsRows p);
+      refusal = λ a. (w : ℕ) × (a ≡ RowBroken w) × Afterwards p js e (λ (next : List Job). Broken p next w);
     }
     ∷ []
 

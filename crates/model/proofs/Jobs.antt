@@ -10,9 +10,9 @@ use lib.Dec.{eqb, leb}
 use lib.ListN.{length, length-append}
 use borrow.Author.Tests.{eq-eqb, ne-eqb}
 use Rattle.model.specs.Limits.{maxNumber}
-use Rattle.model.specs.Numbers.{Lowest, Each, Distinct}
+use Rattle.model.specs.Numbers.{Each, Distinct}
 use Rattle.model.specs.Plan.{isStage, capacityOf, boundOf, demandOf, weightOf, lengthOf}
-use Rattle.model.specs.Jobs.{overStages, overJobs, unitsHeld, rowSum, KeepsCapacities, KeepsRows, exceeded, broken, Active, isActive, jobOf, advancedJob, advanced, unloaded, numbers, Numbered, Placed, Agreeing, distinct, agreeing}
+use Rattle.model.specs.Jobs.{overStages, overJobs, unitsHeld, rowSum, KeepsCapacities, KeepsRows, Exceeded, Broken, exceeded, broken, Active, isActive, jobOf, advancedJob, advanced, unloaded, numbers, Numbered, Placed, Agreeing, distinct, agreeing}
 use Rattle.model.specs.declared.Plan.{Plan}
 use Rattle.model.specs.declared.Job.{Job}
 use Rattle.model.proofs.Decide.{Decides, holding, failing, decides-iff, _and_, decides-then, decides-or, decides-not, decides-le, decides-eq, decides-range, decides-each, decides-lowest, lowest-found}
@@ -150,11 +150,11 @@ module _ (p : Plan) (js : List Job) (placed : Each (Placed p) js) where
   unfolding broken
   decides-rows = decides-lowest _ _ (p .rows) (λ w h. decides-row w)
 
-  pub lowest-exceeded : (¬ KeepsCapacities p js) → Lowest (p .resources) (λ (r : ℕ). unitsHeld p r js ≤ capacityOf p r) (exceeded p js)
+  pub lowest-exceeded : (¬ KeepsCapacities p js) → Exceeded p js (exceeded p js)
   unfolding exceeded
   lowest-exceeded = lowest-found _ _ (p .resources) (λ r h. decides-unit r)
 
-  pub lowest-broken : (¬ KeepsRows p js) → Lowest (p .rows) (λ (w : ℕ). rowSum p w js ≤ boundOf p w) (broken p js)
+  pub lowest-broken : (¬ KeepsRows p js) → Broken p js (broken p js)
   unfolding broken
   lowest-broken = lowest-found _ _ (p .rows) (λ w h. decides-row w)
 

@@ -6,7 +6,7 @@ use mathlib.Core.List.{List, [], _∷_, _++_, map}
 use mathlib.Core.Path.{_≡_}
 use lib.Dec.{leb, eqb}
 use Rattle.model.specs.Limits.{maxNumber}
-use Rattle.model.specs.Numbers.{InRange, inRange, sumTo, lowest, Each, each, Distinct}
+use Rattle.model.specs.Numbers.{InRange, inRange, sumTo, lowest, Lowest, Each, each, Distinct}
 use Rattle.model.specs.Plan.{lengthOf, IsStage, isStage, demandOf, weightOf, capacityOf, boundOf, stageAfter}
 use Rattle.model.specs.declared.Plan.{Plan}
 use Rattle.model.specs.declared.Job.{Job}
@@ -41,12 +41,19 @@ KeepsCapacities p js = (r : ℕ) → InRange r (p .resources) → unitsHeld p r 
 abbrev pub KeepsRows : Plan → List Job → Type 0
 KeepsRows p js = (w : ℕ) → InRange w (p .rows) → rowSum p w js ≤ boundOf p w
 
+-- r is the lowest resource exceeded, and w is the lowest row broken
+abbrev pub Exceeded : Plan → List Job → ℕ → Type 0
+Exceeded p js r = Lowest (p .resources) (λ (i : ℕ). unitsHeld p i js ≤ capacityOf p i) r
+
+abbrev pub Broken : Plan → List Job → ℕ → Type 0
+Broken p js w = Lowest (p .rows) (λ (i : ℕ). rowSum p i js ≤ boundOf p i) w
+
 -- the same sum as it is computed, job by job
 abbrev pub overJobs : (ℕ → ℕ → ℕ) → List Job → ℕ
 overJobs f [] = 0
 overJobs f (j ∷ js) = f (j .kind) (j .stage) + overJobs f js
 
--- the lowest resource exceeded, and the lowest row broken; 0 for none
+-- the same, computed: the lowest resource exceeded, and the lowest row broken; 0 for none
 unfoldable pub exceeded : Plan → List Job → ℕ
 exceeded p js = lowest (p .resources) (λ (r : ℕ). leb (overJobs (demandOf p r) js) (capacityOf p r))
 
