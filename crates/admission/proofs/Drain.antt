@@ -1,13 +1,14 @@
 -- The drain's law: by induction on the budget each turn makes the earliest admitted move, so the moves form a chain; the
 -- count and the emptying follow from the chain.
-use Prim.Native.Nat.{ℕ, zero, suc, _+_, _≤_}
+use Prim.Native.Nat.{ℕ, zero, suc, _+_, _≤_, _<_}
 use native.Mathlib.Omega.{arith}
 use mathlib.Core.Bool.{Bool, true, false, cond, false≢true}
 use mathlib.Core.List.{List, [], _∷_, _++_}
-use mathlib.Core.Logic.{_≢_, _⊎_, inl, inr}
+use mathlib.Core.Logic.{_≢_, _⊎_, inl, inr, ⊎-elim}
 use mathlib.Core.Option.{Option, none, some}
 use mathlib.Core.Path.{_≡_, refl, sym, ap, subst, subst⁻¹, _∙_}
 use Rattle.model.specs.Numbers.{Each}
+use Rattle.model.specs.Questions.{FirstFailure}
 use Rattle.model.specs.Soundness.{Sound, sound}
 use Rattle.model.specs.Upstream.{UpstreamRule}
 use Rattle.model.specs.declared.Plan.{Plan}
@@ -17,14 +18,14 @@ use Rattle.model.proofs.Lists.{each-at}
 use Rattle.model.proofs.Soundness.{decides-sound}
 use Rattle.admission.specs.Table.{jobsOf, tableOf, emptyTable, Agrees, agrees}
 use Rattle.admission.specs.Events.{IsMove, answer, isAdmitted, tableAfter}
-use Rattle.admission.specs.Drain.{stagesBefore, moveOf, Blocked, Earliest, Moves, stay, move, earliest, isEmpty, stopped, oneMore, moved, drainFrom, drain, Ended, DrainRule}
+use Rattle.admission.specs.Drain.{stagesBefore, moveOf, Blocked, Earliest, Moves, stay, move, earliest, isEmpty, stopped, oneMore, moved, drainFrom, drain, Movable, drainConditions, DrainRule}
 use Rattle.admission.specs.declared.Table.{Table}
 use Rattle.admission.specs.declared.Event.{Event}
 use Rattle.admission.specs.declared.Answer.the-variants.{Admitted}
 use Rattle.admission.specs.declared.End.{End}
 use Rattle.admission.specs.declared.End.the-variants.{Emptied, UnsoundPlan, Disagreement, OutOfBudget, NoMove}
 use Rattle.admission.specs.declared.Drained.{Drained}
-use Rattle.admission.proofs.Tables.{table-of-jobs, decides-agrees}
+use Rattle.admission.proofs.Tables.{jobs-of-table, table-of-jobs, decides-agrees}
 use Rattle.admission.proofs.Events.{admitted-or-not, agrees-after}
 use Rattle.admission.proofs.Moves.{move-count, job-moves, movable-job}
 
@@ -59,6 +60,44 @@ EmptyOrNot js = ((js ≡ []) × (isEmpty js ≡ true)) ⊎ ((js ≢ []) × (isEm
 empty-or-not : (js : List Job) → EmptyOrNot js
 empty-or-not [] = inl (refl, refl)
 empty-or-not (j ∷ js) = inr (λ e. false≢true (ap isEmpty e), refl)
+
+all-blocked : (p : Plan) (t : Table) → Each (Blocked p t) (jobsOf t) → ¬ Movable p t
+all-blocked p t h m = each-at (Blocked p t) (m .before) (m .job) (m .later) (subst (Each (Blocked p t)) (m .whole) h) (m .admitted)
+
+-- what each end says, case by case
+abbrev Ended : Plan → Table → ℕ → Drained → End → Type 0
+Ended p t budget d UnsoundPlan = (¬ Sound p) × (d .moves ≡ 0) × (d .table ≡ t)
+Ended p t budget d Disagreement = Sound p × (¬ Agrees p t) × (d .moves ≡ 0) × (d .table ≡ t)
+Ended p t budget d Emptied = Sound p × Agrees p t × (d .moves ≤ budget) × (d .table ≡ emptyTable)
+Ended p t budget d OutOfBudget = Sound p × Agrees p t × (d .moves ≡ budget) × (jobsOf (d .table) ≢ [])
+Ended p t budget d NoMove =
+    Sound p
+    × Agrees p t
+    × (d .moves < budget)
+    × (jobsOf (d .table) ≢ [])
+    × Each (Blocked p (d .table)) (jobsOf (d .table))
+
+module _ (p : Plan) (t : Table) (budget : ℕ) (d : Drained) where
+  first-end : (end : End) → Ended p t budget d end → FirstFailure (λ (end : End). ⊥) (drainConditions p t budget d) end
+  first-end UnsoundPlan h = inl (h .0, refl)
+  first-end Disagreement h = inr (h .0, inl (h .1, refl))
+  first-end Emptied h = inr (h .0, inr (h .1, inl (λ left. left (ap jobsOf (h .3) ∙ jobs-of-table []), (refl, h .3))))
+  first-end OutOfBudget h = inr (h .0, inr (h .1, inr (h .3, inl (λ less. omega (arith, h .2), refl))))
+  first-end NoMove h = inr (h .0, inr (h .1, inr (h .3, inr (h .2, inl (all-blocked p (d .table) (h .4), refl)))))
+
+  ended-within : (end : End) → Ended p t budget d end → d .moves ≤ budget
+  ended-within UnsoundPlan h = omega (arith, h .1)
+  ended-within Disagreement h = omega (arith, h .2)
+  ended-within Emptied h = h .2
+  ended-within OutOfBudget h = omega (arith, h .2)
+  ended-within NoMove h = omega (arith, h .2)
+
+  ended-unmoved : (end : End) → Ended p t budget d end → (¬ Sound p) ⊎ (¬ Agrees p t) → (d .moves ≡ 0) × (d .table ≡ t)
+  ended-unmoved UnsoundPlan h not = (h .1, h .2)
+  ended-unmoved Disagreement h not = (h .2, h .3)
+  ended-unmoved Emptied h not = absurd (⊎-elim (λ n. n (h .0)) (λ n. n (h .1)) not)
+  ended-unmoved OutOfBudget h not = absurd (⊎-elim (λ n. n (h .0)) (λ n. n (h .1)) not)
+  ended-unmoved NoMove h not = absurd (⊎-elim (λ n. n (h .0)) (λ n. n (h .1)) not)
 
 module _ (p : Plan) (sound : Sound p) where
   -- a drain from an agreeing table
@@ -126,26 +165,27 @@ module _ (p : Plan) (rule : UpstreamRule p) (t : Table) (first : Agrees p t) (bu
       remain [] e = h .3 e
       remain (j ∷ js) e = omega (arith, ap (stagesBefore p) e, h .2, enough)
   ended-empty agrees enough NoMove h =
-      let o = movable-job p (d .table) rule agrees (h .3) in
-      let blocked = subst (Each (Blocked p (d .table))) (o .whole) (h .4) in
-      absurd (each-at (Blocked p (d .table)) (o .before) (o .job) (o .later) blocked (o .admitted))
+      absurd (all-blocked p (d .table) (h .4) (movable-job p (d .table) rule agrees (h .3)))
 
 pub drain-rule : (p : Plan) (t : Table) (budget : ℕ) → DrainRule p t budget (drain p t budget)
 unfolding drain
 drain-rule p t budget = step (decides-sound p) (decides-agrees p t)
   where
-    unmoved : (end : End) → Ended p t budget (stopped end t) end → (UpstreamRule p → Agrees p t → ⊥) → DrainRule p t budget (stopped end t)
-    unmoved end h never = record { moves = stay; ended = h; count = omega arith; empties = λ rule k enough. absurd (never rule k) }
+    rule : (d : Drained) → Ended p t budget d (d .end) → Moves p t (d .moves) (d .table) → (Agrees p t → Agrees p (d .table)) → DrainRule p t budget d
+    rule d h chain agrees =
+        let count = chain-count p chain in
+        record {
+          moves = chain;
+          within = ended-within p t budget d (d .end) h;
+          stops = first-end p t budget d (d .end) h;
+          unmoved = ended-unmoved p t budget d (d .end) h;
+          count = count;
+          empties = λ upstream a enough. ended-empty p upstream t a budget d (agrees a) (omega arith) (d .end) h;
+        }
 
     step : {a b : Bool} → Decides (Sound p) a → Decides (Agrees p t) b → DrainRule p t budget (cond a (cond b (drainFrom p budget t) (stopped Disagreement t)) (stopped UnsoundPlan t))
-    step (failing h) d = unmoved UnsoundPlan (h, refl, refl) (λ rule k. h (rule .sound))
-    step (holding h) (failing k) = unmoved Disagreement (h, k, refl, refl) (λ rule a. k a)
+    step (failing h) d = rule (stopped UnsoundPlan t) (h, refl, refl) stay (λ a. a)
+    step (holding h) (failing k) = rule (stopped Disagreement t) (h, k, refl, refl) stay (λ a. a)
     step (holding h) (holding k) =
         let r = drain-agreeing p h budget t k in
-        let count = chain-count p (r .chain) in
-        record {
-          moves = r .chain;
-          ended = r .ended;
-          count = count;
-          empties = λ rule a enough. ended-empty p rule t a budget (drainFrom p budget t) (r .agrees) (omega (arith, count)) (drainFrom p budget t .end) (r .ended);
-        }
+        rule (drainFrom p budget t) (r .ended) (r .chain) (λ _. r .agrees)

@@ -6,6 +6,7 @@ use mathlib.Core.Bool.{false, cond, false≢true}
 use mathlib.Core.List.{List, [], _∷_}
 use mathlib.Core.Logic.{_≢_, ⊎-elim, _↔_}
 use mathlib.Core.Path.{_≡_, refl, sym, ap, subst, _∙_}
+use lib.ListN.{length, length-take}
 use Rattle.model.specs.Numbers.{Each}
 use Rattle.model.specs.Plan.{demandOf, weightOf}
 use Rattle.model.specs.Jobs.{Active, Agreeing}
@@ -80,6 +81,7 @@ pub emptying-theorem : EmptyingTheorem
 emptying-theorem p passed events moves are-moves =
     record {
       same = last .same;
+      few = omega (arith, ap length jobs, length-take (end .table .count) (end .table .jobs), last .agrees .few);
       units = λ r h. last .balance r;
       capacity = λ r h. agreeing .capacities r h;
       movable = subst (λ (js : List Job). SomeMove p (end .table) ↔ (js ≢ [])) jobs (some-move p rule (end .table) (last .agrees));

@@ -8,7 +8,7 @@ use mathlib.Core.Logic.{_⊎_, inl, inr, ⊎-elim}
 use mathlib.Core.Path.{_≡_, refl, sym, ap, subst, subst⁻¹, _∙_}
 use lib.ListN.{length, length-append, length-take}
 use Rattle.model.specs.Limits.{maxNumber, maxJobs}
-use Rattle.model.specs.Numbers.{InRange, Lowest, Each, Distinct}
+use Rattle.model.specs.Numbers.{InRange, Each, Distinct}
 use Rattle.model.specs.Questions.{FirstFailure}
 use Rattle.model.specs.Plan.{lengthOf}
 use Rattle.model.specs.Jobs.{KeepsCapacities, KeepsRows, Exceeded, Broken, Active, jobOf, loadedJob, advancedJob, advanced, unloaded, exceeded, broken, Numbered, Placed, Agreeing, numbers}
@@ -21,7 +21,7 @@ use Rattle.model.proofs.Jobs.{distinct-moved, distinct-removed, distinct-added,
 use Rattle.model.proofs.Progress.{removed-keeps-capacities, removed-keeps-rows}
 use Rattle.model.proofs.Soundness.{decides-sound}
 use Rattle.admission.specs.Table.{jobsOf, tableOf, Agrees}
-use Rattle.admission.specs.Events.{HasNext, IsLast, Named, Allowed, WellNamed, Afterwards, jobsAfter, keptConditions, ownConditions, eventConditions, keptQuestions, ownQuestions, eventQuestions, answer, isAdmitted, tableAfter, Judged, answerNumbers}
+use Rattle.admission.specs.Events.{HasNext, IsLast, LeadsTo, Allowed, WellNamed, Afterwards, jobsAfter, keptConditions, ownConditions, eventConditions, keptQuestions, ownQuestions, eventQuestions, answer, isAdmitted, tableAfter, Judged, answerNumbers, Says}
 use Rattle.admission.specs.declared.Table.{Table}
 use Rattle.admission.specs.declared.Event.{Event}
 use Rattle.admission.specs.declared.Event.the-variants.{Load, Advance, Unload}
@@ -45,56 +45,56 @@ module _ (p : Plan) (sound : Sound p) (js : List Job) (agreeing : Agreeing p js)
     pub placed-job : Placed p (a .job)
     placed-job = each-at (Placed p) (a .before) (a .job) (a .after) (parts (Placed p) (agreeing .placed))
 
-    pub names : Found n js a
-    names = found a (agreeing .distinct)
+    pub names : Found p n js a
+    names = found p a (agreeing .distinct)
 
     whole-distinct : Distinct (numbers (a .before ++ a .job ∷ a .after))
     whole-distinct = subst (λ (is : List Job). Distinct (numbers is)) (a .whole) (agreeing .distinct)
 
     -- a number names one job, so what is asked of the job found is asked of each that has the number
     decides-named : (P : Job → Type 0) {b : Bool} → Decides (P (jobOf n js)) b → Decides ((c : Active n js) → P (c .job)) b
-    decides-named P d = decides-iff (λ h c. subst P (found c (agreeing .distinct) .job) h) (λ h. subst⁻¹ P (names .job) (h a)) d
+    decides-named P d = decides-iff (λ h c. subst P (found p c (agreeing .distinct) .job) h) (λ h. subst⁻¹ P (names .job) (h a)) d
 
   -- the model names one list, the one that is computed
-  named-after : (e : Event) {next : List Job} → Named p js e next → next ≡ jobsAfter js e
-  named-after (Load n t) h = h
-  named-after (Advance n) h = h .2 ∙ sym (names n (h .0) .advance)
-  named-after (Unload n) h = h .2 ∙ sym (names n (h .0) .unload)
+  leads-after : (e : Event) {next : List Job} → LeadsTo p js e next → next ≡ jobsAfter p js e
+  leads-after (Load n t) h = h
+  leads-after (Advance n) h = h .2 ∙ sym (names n (h .0) .advance)
+  leads-after (Unload n) h = h .2 ∙ sym (names n (h .0) .unload)
 
-  named-advance : (n : ℕ) (a : Active n js) → HasNext p (a .job) → Named p js (Advance n) (advanced n js)
-  named-advance n a h = (a, h, names n a .advance)
+  leads-advance : (n : ℕ) (a : Active n js) → HasNext p (a .job) → LeadsTo p js (Advance n) (advanced p n js)
+  leads-advance n a h = (a, h, names n a .advance)
 
-  named-unload : (n : ℕ) (a : Active n js) → IsLast p (a .job) → Named p js (Unload n) (unloaded n js)
-  named-unload n a h = (a, h, names n a .unload)
+  leads-unload : (n : ℕ) (a : Active n js) → IsLast p (a .job) → LeadsTo p js (Unload n) (unloaded n js)
+  leads-unload n a h = (a, h, names n a .unload)
 
-  placed-after : (e : Event) (next : List Job) → TypeOf p e → Named p js e next → Each (Placed p) next
+  placed-after : (e : Event) (next : List Job) → TypeOf p e → LeadsTo p js e next → Each (Placed p) next
   placed-after (Load n t) next type h =
       rw h (append-each (Placed p) js (loadedJob n t ∷ []) (agreeing .placed) ((type, omega (arith, sound .lengths t type)), tt))
   placed-after (Advance n) next type h =
       let a = h .0 in
       rw (h .2)
-      (each-moved (Placed p) (a .before) (a .job) (advancedJob (a .job)) (a .after) (placed-job n a .0, omega (arith, h .1)) (parts n a (Placed p) (agreeing .placed)))
+      (each-moved (Placed p) (a .before) (a .job) (advancedJob p (a .job)) (a .after) (placed-job n a .0, omega (arith, h .1)) (parts n a (Placed p) (agreeing .placed)))
   placed-after (Unload n) next type h =
       let a = h .0 in
       rw (h .2) (each-removed (Placed p) (a .before) (a .job) (a .after) (parts n a (Placed p) (agreeing .placed)))
 
   -- the last two questions: what holds of the list computed holds of the list named
-  module _ (e : Event) (type : TypeOf p e) (named : Named p js e (jobsAfter js e)) where
-    afterwards : (P : List Job → Type 0) → P (jobsAfter js e) → Afterwards p js e P
-    afterwards P h next k = subst⁻¹ P (named-after e k) h
+  module _ (e : Event) (type : TypeOf p e) (leads : LeadsTo p js e (jobsAfter p js e)) where
+    afterwards : (P : List Job → Type 0) → P (jobsAfter p js e) → Afterwards p js e P
+    afterwards P h next k = subst⁻¹ P (leads-after e k) h
 
-    decides-after : (P : List Job → Type 0) {b : Bool} → Decides (P (jobsAfter js e)) b → Decides (Afterwards p js e P) b
-    decides-after P d = decides-iff (afterwards P) (λ h. h (jobsAfter js e) named) d
+    decides-after : (P : List Job → Type 0) {b : Bool} → Decides (P (jobsAfter p js e)) b → Decides (Afterwards p js e P) b
+    decides-after P d = decides-iff (afterwards P) (λ h. h (jobsAfter p js e) leads) d
 
-    place-after : (refusal : ℕ → Answer) (P : List Job → Type 0) (Lowest : List Job → ℕ → Type 0) (i : ℕ) → ((¬ P (jobsAfter js e)) → Lowest (jobsAfter js e) i) → (¬ Afterwards p js e P) → (r : ℕ) × (refusal i ≡ refusal r) × Afterwards p js e (λ (next : List Job). Lowest next r)
-    place-after refusal P Lowest i found h = (i, refl, afterwards (λ (l : List Job). Lowest l i) (found (λ k. h (afterwards P k))))
+    place-after : (says : ℕ → Type 0) (P : List Job → Type 0) (Place : List Job → ℕ → Type 0) (i : ℕ) → says i → ((¬ P (jobsAfter p js e)) → Place (jobsAfter p js e) i) → (¬ Afterwards p js e P) → (r : ℕ) × says r × (next : List Job) × LeadsTo p js e next × Place next r
+    place-after says P Place i said found h = (i, said, jobsAfter p js e, leads, found (λ k. h (afterwards P k)))
 
-    kept-answers : Answers isAdmitted (keptQuestions p (jobsAfter js e)) (keptConditions p js e)
+    kept-answers : Answers isAdmitted (keptQuestions p (jobsAfter p js e)) (keptConditions p js e)
     kept-answers =
-        let l = jobsAfter js e in
-        let placed = placed-after e l type named in
-        asked (decides-after (KeepsCapacities p) (decides-capacities p l placed)) (place-after OverCapacity (KeepsCapacities p) (Exceeded p) (exceeded p l) (lowest-exceeded p l placed)) refl λ _.
-        asked (decides-after (KeepsRows p) (decides-rows p l placed)) (place-after RowBroken (KeepsRows p) (Broken p) (broken p l) (lowest-broken p l placed)) refl λ _.
+        let l = jobsAfter p js e in
+        let placed = placed-after e l type leads in
+        asked (decides-after (KeepsCapacities p) (decides-capacities p l placed)) (place-after (λ r. Says 18 r (OverCapacity (exceeded p l))) (KeepsCapacities p) (Exceeded p) (exceeded p l) refl (lowest-exceeded p l placed)) refl λ _.
+        asked (decides-after (KeepsRows p) (decides-rows p l placed)) (place-after (λ w. Says 19 w (RowBroken (broken p l))) (KeepsRows p) (Broken p) (broken p l) refl (lowest-broken p l placed)) refl λ _.
         done
 
   own-answers : (e : Event) → Answers isAdmitted (ownQuestions p js e) (ownConditions p js e)
@@ -108,18 +108,18 @@ module _ (p : Plan) (sound : Sound p) (js : List Job) (agreeing : Agreeing p js)
       asked (decides-range n maxNumber) (λ _. refl) refl λ _.
       asked (decides-active n js) (λ _. refl) refl λ a.
       asked (decides-named n a (HasNext p) (decides-lt (jobOf n js .stage) (lengthOf p (jobOf n js .kind)))) (λ _. refl) refl λ h.
-      kept-answers (Advance n) tt (named-advance n a (h a))
+      kept-answers (Advance n) tt (leads-advance n a (h a))
   own-answers (Unload n) =
       asked (decides-range n maxNumber) (λ _. refl) refl λ _.
       asked (decides-active n js) (λ _. refl) refl λ a.
       asked (decides-named n a (IsLast p) (decides-eq (jobOf n js .stage) (lengthOf p (jobOf n js .kind)))) (λ _. refl) refl λ h.
-      kept-answers (Unload n) tt (named-unload n a (h a))
+      kept-answers (Unload n) tt (leads-unload n a (h a))
 
   -- where its own questions are met an event leads to the jobs that the model names, which agree with the plan
-  pub own-named : (e : Event) → AllHold (ownConditions p js e) → Named p js e (jobsAfter js e)
-  own-named (Load n t) h = refl
-  own-named (Advance n) h = named-advance n (h .1 .0) (h .1 .1 .0 (h .1 .0))
-  own-named (Unload n) h = named-unload n (h .1 .0) (h .1 .1 .0 (h .1 .0))
+  pub own-leads : (e : Event) → AllHold (ownConditions p js e) → LeadsTo p js e (jobsAfter p js e)
+  own-leads (Load n t) h = refl
+  own-leads (Advance n) h = leads-advance n (h .1 .0) (h .1 .1 .0 (h .1 .0))
+  own-leads (Unload n) h = leads-unload n (h .1 .0) (h .1 .1 .0 (h .1 .0))
 
   own-type : (e : Event) → AllHold (ownConditions p js e) → TypeOf p e
   own-type (Load n t) h = h .1 .1 .0
@@ -131,51 +131,51 @@ module _ (p : Plan) (sound : Sound p) (js : List Job) (agreeing : Agreeing p js)
   own-kept (Advance n) h = h .1 .1 .1
   own-kept (Unload n) h = h .1 .1 .1
 
-  own-length : (e : Event) → AllHold (ownConditions p js e) → length js ≤ maxJobs → length (jobsAfter js e) ≤ maxJobs
+  own-length : (e : Event) → AllHold (ownConditions p js e) → length js ≤ maxJobs → length (jobsAfter p js e) ≤ maxJobs
   own-length (Load n t) h few = omega (arith, length-append js (loadedJob n t ∷ []), h .1 .1 .1 .0)
   own-length (Advance n) h few =
       let a = h .1 .0 in
       rw (names n a .advance)
-      (omega (arith, length-append (a .before) (advancedJob (a .job) ∷ a .after), length-append (a .before) (a .job ∷ a .after), ap length (a .whole)))
+      (omega (arith, length-append (a .before) (advancedJob p (a .job) ∷ a .after), length-append (a .before) (a .job ∷ a .after), ap length (a .whole)))
   own-length (Unload n) h few =
       let a = h .1 .0 in
       rw (names n a .unload)
       (omega (arith, length-append (a .before) (a .after), length-append (a .before) (a .job ∷ a .after), ap length (a .whole)))
 
-  own-numbered : (e : Event) → AllHold (ownConditions p js e) → Each Numbered (jobsAfter js e)
+  own-numbered : (e : Event) → AllHold (ownConditions p js e) → Each Numbered (jobsAfter p js e)
   own-numbered (Load n t) h = append-each Numbered js (loadedJob n t ∷ []) (agreeing .numbered) (h .0, tt)
   own-numbered (Advance n) h =
       let a = h .1 .0 in
       let numbered = parts n a Numbered (agreeing .numbered) in
       rw (names n a .advance)
-      (each-moved Numbered (a .before) (a .job) (advancedJob (a .job)) (a .after) (each-at Numbered (a .before) (a .job) (a .after) numbered) numbered)
+      (each-moved Numbered (a .before) (a .job) (advancedJob p (a .job)) (a .after) (each-at Numbered (a .before) (a .job) (a .after) numbered) numbered)
   own-numbered (Unload n) h =
       let a = h .1 .0 in
       rw (names n a .unload) (each-removed Numbered (a .before) (a .job) (a .after) (parts n a Numbered (agreeing .numbered)))
 
-  own-distinct : (e : Event) → AllHold (ownConditions p js e) → Distinct (numbers (jobsAfter js e))
+  own-distinct : (e : Event) → AllHold (ownConditions p js e) → Distinct (numbers (jobsAfter p js e))
   own-distinct (Load n t) h = distinct-added js (loadedJob n t) (h .1 .0) (agreeing .distinct)
   own-distinct (Advance n) h =
       let a = h .1 .0 in
-      rw (names n a .advance) (distinct-moved (a .before) (a .after) (a .job) (advancedJob (a .job)) refl (whole-distinct n a))
+      rw (names n a .advance) (distinct-moved (a .before) (a .after) (a .job) (advancedJob p (a .job)) refl (whole-distinct n a))
   own-distinct (Unload n) h =
       let a = h .1 .0 in
       rw (names n a .unload) (distinct-removed (a .before) (a .after) (a .job) (whole-distinct n a))
 
-  own-agreeing : (e : Event) → AllHold (ownConditions p js e) → Agreeing p (jobsAfter js e)
+  own-agreeing : (e : Event) → AllHold (ownConditions p js e) → Agreeing p (jobsAfter p js e)
   own-agreeing e h =
       record {
         numbered = own-numbered e h;
         distinct = own-distinct e h;
-        placed = placed-after e (jobsAfter js e) (own-type e h) (own-named e h);
-        capacities = own-kept e h .0 (jobsAfter js e) (own-named e h);
-        rows = own-kept e h .1 .0 (jobsAfter js e) (own-named e h);
+        placed = placed-after e (jobsAfter p js e) (own-type e h) (own-leads e h);
+        capacities = own-kept e h .0 (jobsAfter p js e) (own-leads e h);
+        rows = own-kept e h .1 .0 (jobsAfter p js e) (own-leads e h);
       }
 
   own-allowed : (e : Event) → AllHold (ownConditions p js e) → Allowed p js e
   own-allowed e h =
       let agrees = own-agreeing e h in
-      record { next = jobsAfter js e; named = own-named e h; capacities = agrees .capacities; rows = agrees .rows }
+      record { next = jobsAfter p js e; leads = own-leads e h; capacities = agrees .capacities; rows = agrees .rows }
 
   -- an active number is in range
   active-range : (n : ℕ) → Active n js → InRange n maxNumber
@@ -187,8 +187,8 @@ module _ (p : Plan) (sound : Sound p) (js : List Job) (agreeing : Agreeing p js)
   allowed-kept : (e : Event) → Allowed p js e → AllHold (keptConditions p js e)
   allowed-kept e l = (λ next k. subst (KeepsCapacities p) (same k) (l .capacities), (λ next k. subst (KeepsRows p) (same k) (l .rows), tt))
     where
-      same : {next : List Job} → Named p js e next → l .next ≡ next
-      same k = named-after e (l .named) ∙ sym (named-after e k)
+      same : {next : List Job} → LeadsTo p js e next → l .next ≡ next
+      same k = leads-after e (l .leads) ∙ sym (leads-after e k)
 
   same-job : (n : ℕ) (a b : Active n js) → a .job ≡ b .job
   same-job n a b = sym (names n a .job) ∙ names n b .job
@@ -196,12 +196,12 @@ module _ (p : Plan) (sound : Sound p) (js : List Job) (agreeing : Agreeing p js)
   allowed-own : (e : Event) → WellNamed p js e → Allowed p js e → AllHold (ownConditions p js e)
   allowed-own (Load n t) w l = (w .0, (w .1, (w .2, (w .3, allowed-kept (Load n t) l))))
   allowed-own (Advance n) a l =
-      (active-range n a, (a, (λ b. subst (HasNext p) (same-job n (l .named .0) b) (l .named .1), allowed-kept (Advance n) l)))
+      (active-range n a, (a, (λ b. subst (HasNext p) (same-job n (l .leads .0) b) (l .leads .1), allowed-kept (Advance n) l)))
   allowed-own (Unload n) a l =
-      (active-range n a, (a, (λ b. subst (IsLast p) (same-job n (l .named .0) b) (l .named .1), allowed-kept (Unload n) l)))
+      (active-range n a, (a, (λ b. subst (IsLast p) (same-job n (l .leads .0) b) (l .leads .1), allowed-kept (Unload n) l)))
 
   -- what an unload leaves keeps what the whole list kept
-  unload-keeps : (n : ℕ) {next : List Job} → Named p js (Unload n) next → KeepsCapacities p next × KeepsRows p next
+  unload-keeps : (n : ℕ) {next : List Job} → LeadsTo p js (Unload n) next → KeepsCapacities p next × KeepsRows p next
   unload-keeps n h =
       let a = h .0 in
       let here = placed-job n a in (
@@ -216,9 +216,9 @@ event-answers p t e =
     own-answers p sound (jobsOf t) (agrees .jobs) e
 
 -- every answer, of any plan, table and event, names the first question that fails, with the lowest resource or row
-pub answer-first-failure : (p : Plan) (t : Table) (e : Event) → FirstFailure Admitted (eventConditions p t e) (answer p t e)
+pub answer-first-failure : (p : Plan) (t : Table) (e : Event) → FirstFailure (Says 0 0) (eventConditions p t e) (answer p t e)
 unfolding answer
-answer-first-failure p t e = first-failure isAdmitted Admitted (event-answers p t e)
+answer-first-failure p t e = first-failure isAdmitted Admitted (Says 0 0) refl (event-answers p t e)
 
 -- an answer is the acceptance or not
 pub admitted-or-not : (a : Answer) → (a ≡ Admitted) ⊎ (isAdmitted a ≡ false)
@@ -243,7 +243,7 @@ module _ (p : Plan) (t : Table) (e : Event) where
   unfolding answer
   holds-admitted h = accepted isAdmitted Admitted (event-answers p t e) h
 
-  pub table-admitted : answer p t e ≡ Admitted → tableAfter p t e ≡ tableOf (jobsAfter (jobsOf t) e)
+  pub table-admitted : answer p t e ≡ Admitted → tableAfter p t e ≡ tableOf (jobsAfter p (jobsOf t) e)
   unfolding tableAfter
   table-admitted h = rw h
 
@@ -261,14 +261,14 @@ agrees-after p t e sound agrees = ⊎-elim yes (λ h. rw (table-refused p t e h)
     yes h =
         let own = admitted-holds p t e h .1 .1 in
         rw (table-admitted p t e h)
-        (agreeing-table p (jobsAfter (jobsOf t) e) (own-length p sound (jobsOf t) (agrees .jobs) e own few) (own-agreeing p sound (jobsOf t) (agrees .jobs) e own))
+        (agreeing-table p (jobsAfter p (jobsOf t) e) (own-length p sound (jobsOf t) (agrees .jobs) e own few) (own-agreeing p sound (jobsOf t) (agrees .jobs) e own))
 
 -- demand 2: a well named event is judged as the model and the plan's inequalities do
 pub judged : (p : Plan) (t : Table) (e : Event) → Sound p → Agrees p t → WellNamed p (jobsOf t) e → Judged p t e
 judged p t e sound agrees named =
     record {
       exact = (λ h. own-allowed p sound (jobsOf t) (agrees .jobs) e (admitted-holds p t e h .1 .1), admits);
-      named = λ a. table-admitted p t e (admits a) ∙ ap tableOf (sym (named-after p sound (jobsOf t) (agrees .jobs) e (a .named)));
+      table = λ a. table-admitted p t e (admits a) ∙ ap tableOf (sym (leads-after p sound (jobsOf t) (agrees .jobs) e (a .leads)));
       agrees = agrees-after p t e sound agrees;
       refused = λ no. ⊎-elim (λ yes. absurd (no yes)) (table-refused p t e) (admitted-or-not (answer p t e));
       first = answer-first-failure p t e;

@@ -3,7 +3,7 @@
 use Prim.Native.Nat.{ℕ, _+_}
 use native.Mathlib.Omega.{arith}
 use mathlib.Core.Bool.{false}
-use mathlib.Core.List.{List}
+use mathlib.Core.List.{List, _∷_, _++_}
 use mathlib.Core.Logic.{⊎-elim}
 use mathlib.Core.Path.{_≡_, refl, sym, ap, subst, _∙_}
 use Rattle.model.specs.Plan.{demandOf}
@@ -28,10 +28,15 @@ use Rattle.admission.proofs.Events.{names, placed-job, admitted-or-not,
 abbrev pub Balanced : Plan → Ledger → Type 0
 Balanced p l = (r : ℕ) → l .taken r ≡ l .given r + unitsHeld p r (l .jobs)
 
+-- per resource an advance takes what the new stage demands above the old and gives back what the old demands above the new
+pub advance-units : (p : Plan) {n : ℕ} {js : List Job} (a : Active n js) → Placed p (a .job) → HasNext p (a .job) → (r : ℕ) → unitsHeld p r (a .before ++ advancedJob p (a .job) ∷ a .after) + gives p (a .job) r ≡ unitsHeld p r js + takes p (a .job) r
+advance-units p a here next r =
+    omega (arith, ap (unitsHeld p r) (a .whole), over-stages-moved p (demandOf p r) (a .before) (a .after) (a .job) (advancedJob p (a .job)) here (here .0, omega (arith, next)))
+
 module _ (p : Plan) (sound : Sound p) (l : Ledger) (agreeing : Agreeing p (l .jobs)) (balanced : Balanced p l) where
   -- what is written of an event whose questions are met
   record Written (e : Event) (new : Ledger) : Type 0 where
-    jobs : new .jobs ≡ jobsAfter (l .jobs) e
+    jobs : new .jobs ≡ jobsAfter p (l .jobs) e
     balance : Balanced p new
 
   event-written : (e : Event) → AllHold (ownConditions p (l .jobs) e) → Written e (written p l e)
@@ -46,28 +51,22 @@ module _ (p : Plan) (sound : Sound p) (l : Ledger) (agreeing : Agreeing p (l .jo
       a : Active n (l .jobs)
       a = h .1 .0
 
-      found : Found n (l .jobs) a
+      found : Found p n (l .jobs) a
       found = names p sound (l .jobs) agreeing n a
 
-      here : Placed p (a .job)
-      here = placed-job p sound (l .jobs) agreeing n a
-
-      next : HasNext p (a .job)
-      next = h .1 .1 .0 a
-
-      balance : (r : ℕ) → l .taken r + takes p (jobOf n (l .jobs)) r ≡ l .given r + gives p (jobOf n (l .jobs)) r + unitsHeld p r (jobsAfter (l .jobs) (Advance n))
+      balance : (r : ℕ) → l .taken r + takes p (jobOf n (l .jobs)) r ≡ l .given r + gives p (jobOf n (l .jobs)) r + unitsHeld p r (jobsAfter p (l .jobs) (Advance n))
       balance r =
           rw (found .advance, found .job)
-          (omega (arith, balanced r, ap (unitsHeld p r) (a .whole), over-stages-moved p (demandOf p r) (a .before) (a .after) (a .job) (advancedJob (a .job)) here (here .0, omega (arith, next))))
+          (omega (arith, balanced r, advance-units p a (placed-job p sound (l .jobs) agreeing n a) (h .1 .1 .0 a) r))
   event-written (Unload n) h = rw (passes (decides-active n (l .jobs)) a) (record { jobs = refl; balance = balance })
     where
       a : Active n (l .jobs)
       a = h .1 .0
 
-      found : Found n (l .jobs) a
+      found : Found p n (l .jobs) a
       found = names p sound (l .jobs) agreeing n a
 
-      balance : (r : ℕ) → l .taken r ≡ l .given r + demandAt p (jobOf n (l .jobs)) r + unitsHeld p r (jobsAfter (l .jobs) (Unload n))
+      balance : (r : ℕ) → l .taken r ≡ l .given r + demandAt p (jobOf n (l .jobs)) r + unitsHeld p r (jobsAfter p (l .jobs) (Unload n))
       balance r =
           rw (found .unload, found .job)
           (omega (arith, balanced r, ap (unitsHeld p r) (a .whole), over-stages-removed p (demandOf p r) (a .before) (a .after) (a .job) (placed-job p sound (l .jobs) agreeing n a)))
@@ -101,7 +100,7 @@ stays-consistent p sound s e h = ⊎-elim yes not (admitted-or-not (answer p (s 
         let w = event-written p sound (s .ledger) (subst (Agreeing p) same-jobs (h .agrees .jobs)) (h .balance) e own in
         rw (ap isAdmitted a)
         (record {
-          same = table-admitted p (s .table) e a ∙ ap tableOf (ap (λ (js : List Job). jobsAfter js e) same-jobs ∙ sym (w .jobs));
+          same = table-admitted p (s .table) e a ∙ ap tableOf (ap (λ (js : List Job). jobsAfter p js e) same-jobs ∙ sym (w .jobs));
           agrees = agrees;
           balance = w .balance;
         })

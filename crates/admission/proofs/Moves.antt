@@ -16,27 +16,27 @@ use Rattle.model.specs.declared.Job.{Job}
 use Rattle.model.proofs.Decide.{decided, decides-eq}
 use Rattle.model.proofs.Lists.{each-at}
 use Rattle.model.proofs.Sums.{over-jobs-moved, over-jobs-removed}
-use Rattle.model.proofs.Progress.{removed-keeps-capacities, removed-keeps-rows, Movable, progress}
+use Rattle.model.proofs.Progress.{removed-keeps-capacities, removed-keeps-rows, FreeJob, progress}
 use Rattle.admission.specs.Table.{jobsOf, Agrees}
-use Rattle.admission.specs.Events.{IsMove, Named, jobsAfter, isLast, answer, tableAfter}
-use Rattle.admission.specs.Drain.{stagesLeft, stagesBefore, moveOf}
+use Rattle.admission.specs.Events.{IsMove, LeadsTo, jobsAfter, isLast, answer, tableAfter}
+use Rattle.admission.specs.Drain.{stagesLeft, stagesBefore, moveOf, Movable}
 use Rattle.admission.specs.declared.Table.{Table}
 use Rattle.admission.specs.declared.Event.{Event}
 use Rattle.admission.specs.declared.Event.the-variants.{Load, Advance, Unload}
 use Rattle.admission.specs.declared.Answer.the-variants.{Admitted}
 use Rattle.admission.proofs.Tables.{jobs-of-table}
-use Rattle.admission.proofs.Events.{own-named, admitted-holds, table-admitted, judged}
+use Rattle.admission.proofs.Events.{own-leads, admitted-holds, table-admitted, judged}
 
-pub jobs-admitted : (p : Plan) (t : Table) (e : Event) → answer p t e ≡ Admitted → jobsOf (tableAfter p t e) ≡ jobsAfter (jobsOf t) e
-jobs-admitted p t e h = ap jobsOf (table-admitted p t e h) ∙ jobs-of-table (jobsAfter (jobsOf t) e)
+pub jobs-admitted : (p : Plan) (t : Table) (e : Event) → answer p t e ≡ Admitted → jobsOf (tableAfter p t e) ≡ jobsAfter p (jobsOf t) e
+jobs-admitted p t e h = ap jobsOf (table-admitted p t e h) ∙ jobs-of-table (jobsAfter p (jobsOf t) e)
 
 -- one move, one stage
-named-count : (p : Plan) (js : List Job) (e : Event) → IsMove e → (next : List Job) → Named p js e next → 1 + stagesBefore p next ≡ stagesBefore p js
-named-count p js (Load n t) move next h = absurd move
-named-count p js (Advance n) move next h =
+leads-count : (p : Plan) (js : List Job) (e : Event) → IsMove e → (next : List Job) → LeadsTo p js e next → 1 + stagesBefore p next ≡ stagesBefore p js
+leads-count p js (Load n t) move next h = absurd move
+leads-count p js (Advance n) move next h =
     let a = h .0 in
-    omega (arith, ap (stagesBefore p) (h .2), ap (stagesBefore p) (a .whole), h .1, over-jobs-moved (stagesLeft p) (a .before) (a .after) (a .job) (advancedJob (a .job)))
-named-count p js (Unload n) move next h =
+    omega (arith, ap (stagesBefore p) (h .2), ap (stagesBefore p) (a .whole), h .1, over-jobs-moved (stagesLeft p) (a .before) (a .after) (a .job) (advancedJob p (a .job)))
+leads-count p js (Unload n) move next h =
     let a = h .0 in
     omega (arith, ap (stagesBefore p) (h .2), ap (stagesBefore p) (a .whole), h .1, over-jobs-removed (stagesLeft p) (a .before) (a .after) (a .job))
 
@@ -44,7 +44,7 @@ pub move-count : (p : Plan) (t : Table) (e : Event) → IsMove e → answer p t 
 move-count p t e move h =
     let holds = admitted-holds p t e h in
     rw (jobs-admitted p t e h)
-    (named-count p (jobsOf t) e move (jobsAfter (jobsOf t) e) (own-named p (holds .0) (jobsOf t) (holds .1 .0 .jobs) e (holds .1 .1)))
+    (leads-count p (jobsOf t) e move (jobsAfter p (jobsOf t) e) (own-leads p (holds .0) (jobsOf t) (holds .1 .0 .jobs) e (holds .1 .1)))
 
 -- a job's move is a move
 pub job-moves : (p : Plan) (j : Job) → IsMove (moveOf p j)
@@ -54,19 +54,11 @@ job-moves p j = go (isLast p j)
     go true = tt
     go false = tt
 
--- a job of the table whose move is admitted
-pub record MovableJob (p : Plan) (t : Table) : Type 0 where
-  pub before : List Job
-  pub job : Job
-  pub later : List Job
-  pub whole : jobsOf t ≡ before ++ job ∷ later
-  pub admitted : answer p t (moveOf p job) ≡ Admitted
-
-pub movable-job : (p : Plan) (t : Table) → UpstreamRule p → Agrees p t → jobsOf t ≢ [] → MovableJob p t
+pub movable-job : (p : Plan) (t : Table) → UpstreamRule p → Agrees p t → jobsOf t ≢ [] → Movable p t
 movable-job p t rule agrees some =
     record { before = m .before; job = m .job; later = m .after; whole = m .whole; admitted = move (decided (decides-eq (m .job .stage) (lengthOf p (m .job .kind)))) }
   where
-    m : Movable p rule (jobsOf t)
+    m : FreeJob p rule (jobsOf t)
     m = progress p rule (jobsOf t) some (agrees .jobs .placed) (agrees .jobs .rows)
 
     active : Active (m .job .number) (jobsOf t)
@@ -81,7 +73,7 @@ movable-job p t rule agrees some =
         (judged p t (Unload (m .job .number)) (rule .sound) agrees active .exact .1
         (record {
           next = m .before ++ m .after;
-          named = (active, last, refl);
+          leads = (active, last, refl);
           capacities = removed-keeps-capacities p (m .before) (m .after) (m .job) placed (subst (KeepsCapacities p) (m .whole) (agrees .jobs .capacities));
           rows = removed-keeps-rows p (m .before) (m .after) (m .job) placed (subst (KeepsRows p) (m .whole) (agrees .jobs .rows));
         }))
@@ -90,8 +82,8 @@ movable-job p t rule agrees some =
         rw (ne-eqb (m .job .stage) (lengthOf p (m .job .kind)) other)
         (judged p t (Advance (m .job .number)) (rule .sound) agrees active .exact .1
         (record {
-          next = m .before ++ advancedJob (m .job) ∷ m .after;
-          named = (active, next, refl);
+          next = m .before ++ advancedJob p (m .job) ∷ m .after;
+          leads = (active, next, refl);
           capacities = m .capacities next;
           rows = m .rows next;
         }))

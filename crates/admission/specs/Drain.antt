@@ -5,8 +5,9 @@ use mathlib.Core.Bool.{Bool, true, false, cond}
 use mathlib.Core.List.{List, [], _∷_, _++_}
 use mathlib.Core.Option.{Option, none, some}
 use mathlib.Core.Path.{_≡_}
-use mathlib.Core.Logic.{_≢_}
+use mathlib.Core.Logic.{_≢_, _⊎_}
 use Rattle.model.specs.Numbers.{Each}
+use Rattle.model.specs.Questions.{Condition, asks, FirstFailure}
 use Rattle.model.specs.Plan.{lengthOf}
 use Rattle.model.specs.Jobs.{overJobs}
 use Rattle.model.specs.Soundness.{Sound, sound}
@@ -38,6 +39,14 @@ moveOf p j = cond (isLast p j) (Unload (j .number)) (Advance (j .number))
 abbrev pub Blocked : Plan → Table → Job → Type 0
 Blocked p t j = answer p t (moveOf p j) ≢ Admitted
 
+-- some job's move is admitted
+pub record Movable (p : Plan) (t : Table) : Type 0 where
+  pub before : List Job
+  pub job : Job
+  pub later : List Job
+  pub whole : jobsOf t ≡ before ++ job ∷ later
+  pub admitted : answer p t (moveOf p job) ≡ Admitted
+
 -- the move is that of the earliest loaded job for which it is admitted
 pub record Earliest (p : Plan) (t : Table) (e : Event) : Type 0 where
   pub before : List Job
@@ -52,6 +61,38 @@ pub record Earliest (p : Plan) (t : Table) (e : Event) : Type 0 where
 pub data Moves (p : Plan) : Table → ℕ → Table → Type 0 where
   stay : {t : Table} → Moves p t 0 t
   move : {t u : Table} {n : ℕ} (e : Event) → Earliest p t e → Moves p (tableAfter p t e) n u → Moves p t (suc n) u
+
+-- the paper's number of each end
+abbrev pub endNumber : End → ℕ
+endNumber Emptied = 0
+endNumber UnsoundPlan = 11
+endNumber Disagreement = 12
+endNumber OutOfBudget = 31
+endNumber NoMove = 32
+
+abbrev pub EndSays : ℕ → End → Type 0
+EndSays number end = endNumber end ≡ number
+
+-- the drain's questions as they are worded, asked where it stopped
+abbrev pub drainConditions : Plan → Table → ℕ → Drained → List (Condition End)
+drainConditions p t budget d =
+    asks (Sound p) (EndSays 11)
+    ∷ asks (Agrees p t) (EndSays 12)
+    ∷ asks (jobsOf (d .table) ≢ []) (λ (end : End). EndSays 0 end × (d .table ≡ emptyTable))
+    ∷ asks (d .moves < budget) (EndSays 31)
+    ∷ asks (Movable p (d .table)) (EndSays 32)
+    ∷ []
+
+-- the Drain section of document 01: each move is the earliest admitted one; it stops at the first question that fails; a
+-- refusal makes no move; the count is the fall in stages still before the jobs; and under the upstream rule a budget of as
+-- many moves empties the cell
+pub record DrainRule (p : Plan) (t : Table) (budget : ℕ) (d : Drained) : Type 0 where
+  pub moves : Moves p t (d .moves) (d .table)
+  pub within : d .moves ≤ budget
+  pub stops : FirstFailure (λ (end : End). ⊥) (drainConditions p t budget d) (d .end)
+  pub unmoved : (¬ Sound p) ⊎ (¬ Agrees p t) → (d .moves ≡ 0) × (d .table ≡ t)
+  pub count : d .moves + stagesBefore p (jobsOf (d .table)) ≡ stagesBefore p (jobsOf t)
+  pub empties : UpstreamRule p → Agrees p t → stagesBefore p (jobsOf t) ≤ budget → (d .end ≡ Emptied) × (d .table ≡ emptyTable)
 
 -- the same, computed: the move of the earliest of these jobs for which it is admitted
 abbrev pub earliest : Plan → Table → List Job → Option Event
@@ -81,32 +122,3 @@ drainFrom p (suc budget) t =
 
 unfoldable pub drain : Plan → Table → ℕ → Drained
 drain p t budget = cond (sound p) (cond (agrees p t) (drainFrom p budget t) (stopped Disagreement t)) (stopped UnsoundPlan t)
-
--- what each end says: the first question that failed, and where the drain stood
-abbrev pub Ended : Plan → Table → ℕ → Drained → End → Type 0
-Ended p t budget d UnsoundPlan = (¬ Sound p) × (d .moves ≡ 0) × (d .table ≡ t)
-Ended p t budget d Disagreement = Sound p × (¬ Agrees p t) × (d .moves ≡ 0) × (d .table ≡ t)
-Ended p t budget d Emptied = Sound p × Agrees p t × (d .moves ≤ budget) × (d .table ≡ emptyTable)
-Ended p t budget d OutOfBudget = Sound p × Agrees p t × (d .moves ≡ budget) × (jobsOf (d .table) ≢ [])
-Ended p t budget d NoMove =
-    Sound p
-    × Agrees p t
-    × (d .moves < budget)
-    × (jobsOf (d .table) ≢ [])
-    × Each (Blocked p (d .table)) (jobsOf (d .table))
-
--- the Drain section of document 01: each move is the earliest admitted one, the end is right, the count is the fall in
--- stages still before the jobs, and under the upstream rule a budget of as many moves empties the cell
-pub record DrainRule (p : Plan) (t : Table) (budget : ℕ) (d : Drained) : Type 0 where
-  pub moves : Moves p t (d .moves) (d .table)
-  pub ended : Ended p t budget d (d .end)
-  pub count : d .moves + stagesBefore p (jobsOf (d .table)) ≡ stagesBefore p (jobsOf t)
-  pub empties : UpstreamRule p → Agrees p t → stagesBefore p (jobsOf t) ≤ budget → (d .end ≡ Emptied) × (d .table ≡ emptyTable)
-
--- the paper's number of each end
-abbrev pub endNumber : End → ℕ
-endNumber Emptied = 0
-endNumber UnsoundPlan = 11
-endNumber Disagreement = 12
-endNumber OutOfBudget = 31
-endNumber NoMove = 32

@@ -3,6 +3,8 @@ use Prim.Native.Nat.{ℕ, _+_, _≤_}
 use mathlib.Core.List.{List, []}
 use mathlib.Core.Path.{_≡_}
 use mathlib.Core.Logic.{_≢_, _↔_}
+use lib.ListN.{length}
+use Rattle.model.specs.Limits.{maxJobs}
 use Rattle.model.specs.Numbers.{InRange, Each}
 use Rattle.model.specs.Plan.{capacityOf}
 use Rattle.model.specs.Jobs.{unitsHeld}
@@ -28,19 +30,20 @@ pub record SomeMove (p : Plan) (t : Table) : Type 0 where
 abbrev pub start : State
 start = record { table = emptyTable; ledger = emptyLedger }
 
--- of the state between the lists and the state at the end, with the moves admitted on the way
-pub record EmptyingRule (p : Plan) (between end : State) (moves : ℕ) : Type 0 where
+-- of the state between the lists and the state at the end, with the number of moves made on the way
+pub record EmptyingRule (p : Plan) (between end : State) (made : ℕ) : Type 0 where
   -- a: the table holds the ledger's jobs in its order, and zeros beyond
   pub same : end .table ≡ tableOf (end .ledger .jobs)
+  pub few : length (end .ledger .jobs) ≤ maxJobs
   -- b: units taken are units given back plus what the present stages demand, within capacity
   pub units : (r : ℕ) → InRange r (p .resources) → end .ledger .taken r ≡ end .ledger .given r + unitsHeld p r (end .ledger .jobs)
   pub capacity : (r : ℕ) → InRange r (p .resources) → unitsHeld p r (end .ledger .jobs) ≤ capacityOf p r
   -- c: some move is admitted exactly when a job remains
   pub movable : SomeMove p (end .table) ↔ (end .ledger .jobs ≢ [])
   -- d: each admitted move is one stage fewer before the jobs
-  pub count : moves + stagesBefore p (end .ledger .jobs) ≡ stagesBefore p (between .ledger .jobs)
+  pub count : made + stagesBefore p (end .ledger .jobs) ≡ stagesBefore p (between .ledger .jobs)
   -- e: where none is admitted the cell is empty, after one move for each stage
-  pub emptied : (¬ SomeMove p (end .table)) → (end .table ≡ emptyTable) × (moves ≡ stagesBefore p (between .ledger .jobs))
+  pub emptied : (¬ SomeMove p (end .table)) → (end .table ≡ emptyTable) × (made ≡ stagesBefore p (between .ledger .jobs))
 
 -- demand 3: a plan that the check passes, any list of events from the start, any list of moves from there
 abbrev pub EmptyingTheorem : Type 0

@@ -35,17 +35,17 @@ HasNext p j = j .stage < lengthOf p (j .kind)
 abbrev pub IsLast : Plan → Job → Type 0
 IsLast p j = j .stage ≡ lengthOf p (j .kind)
 
--- the jobs that the model names after an event: a load comes last, at stage 1; an advance swaps the demands of two stages
+-- what the model names: the jobs that an event leads to. A load comes last, at stage 1; an advance swaps the demands of two stages
 -- in one act (Condition 3 of source document 003), so only the jobs afterwards are judged; an unload closes the gap
-abbrev pub Named : Plan → List Job → Event → List Job → Type 0
-Named p js (Load n t) next = next ≡ js ++ loadedJob n t ∷ []
-Named p js (Advance n) next = (a : Active n js) × HasNext p (a .job) × (next ≡ a .before ++ advancedJob (a .job) ∷ a .after)
-Named p js (Unload n) next = (a : Active n js) × IsLast p (a .job) × (next ≡ a .before ++ a .after)
+abbrev pub LeadsTo : Plan → List Job → Event → List Job → Type 0
+LeadsTo p js (Load n t) next = next ≡ js ++ loadedJob n t ∷ []
+LeadsTo p js (Advance n) next = (a : Active n js) × HasNext p (a .job) × (next ≡ a .before ++ advancedJob p (a .job) ∷ a .after)
+LeadsTo p js (Unload n) next = (a : Active n js) × IsLast p (a .job) × (next ≡ a .before ++ a .after)
 
--- the model and the plan's inequalities allow the event: what it names keeps every capacity and every row (Equation 1)
+-- the model and the plan's inequalities allow the event: what it leads to keeps every capacity and every row (Equation 1)
 pub record Allowed (p : Plan) (js : List Job) (e : Event) : Type 0 where
   pub next : List Job
-  pub named : Named p js e next
+  pub leads : LeadsTo p js e next
   pub capacities : KeepsCapacities p next
   pub rows : KeepsRows p next
 
@@ -55,82 +55,9 @@ WellNamed p js (Load n t) = InRange n maxNumber × (¬ Active n js) × InRange t
 WellNamed p js (Advance n) = Active n js
 WellNamed p js (Unload n) = Active n js
 
--- P holds of the jobs that the model names after the event
+-- P holds of the jobs that the event leads to; it is asked where there are such
 abbrev pub Afterwards : Plan → List Job → Event → (List Job → Type 0) → Type 0
-Afterwards p js e P = (next : List Job) → Named p js e next → P next
-
--- the event questions as they are worded: what is asked, and what the refusal says
-abbrev pub keptConditions : Plan → List Job → Event → List (Condition Answer)
-keptConditions p js e =
-    record {
-      holds = Afterwards p js e (KeepsCapacities p);
-      refusal = λ a. (r : ℕ) × (a ≡ OverCapacity r) × Afterwards p js e (λ (next : List Job). Exceeded p next r);
-    }
-    ∷ record {
-      holds = Afterwards p js e (KeepsRows p);
-      refusal = λ a. (w : ℕ) × (a ≡ RowBroken w) × Afterwards p js e (λ (next : List Job). Broken p next w);
-    }
-    ∷ []
-
-abbrev pub ownConditions : Plan → List Job → Event → List (Condition Answer)
-ownConditions p js (Load n t) =
-    asks (InRange n maxNumber) BadNumber
-    ∷ asks (¬ Active n js) WrongActivity
-    ∷ asks (InRange t (p .types)) UnknownType
-    ∷ asks (length js < maxJobs) Full
-    ∷ keptConditions p js (Load n t)
-ownConditions p js (Advance n) =
-    asks (InRange n maxNumber) BadNumber
-    ∷ asks (Active n js) WrongActivity
-    ∷ asks ((a : Active n js) → HasNext p (a .job)) WrongStage
-    ∷ keptConditions p js (Advance n)
-ownConditions p js (Unload n) =
-    asks (InRange n maxNumber) BadNumber
-    ∷ asks (Active n js) WrongActivity
-    ∷ asks ((a : Active n js) → IsLast p (a .job)) WrongStage
-    ∷ keptConditions p js (Unload n)
-
-abbrev pub eventConditions : Plan → Table → Event → List (Condition Answer)
-eventConditions p t e = asks (Sound p) UnsoundPlan ∷ asks (Agrees p t) Disagreement ∷ ownConditions p (jobsOf t) e
-
--- the same, computed: the jobs after an event, and its questions
-abbrev pub jobsAfter : List Job → Event → List Job
-jobsAfter js (Load n t) = loaded n t js
-jobsAfter js (Advance n) = advanced n js
-jobsAfter js (Unload n) = unloaded n js
-
-abbrev pub keptQuestions : Plan → List Job → List (Question Answer)
-keptQuestions p next = ask (eqb (exceeded p next) 0) (OverCapacity (exceeded p next)) ∷ ask (eqb (broken p next) 0) (RowBroken (broken p next)) ∷ []
-
-abbrev pub hasNext : Plan → Job → Bool
-hasNext p j = ltb (j .stage) (lengthOf p (j .kind))
-
-abbrev pub isLast : Plan → Job → Bool
-isLast p j = eqb (j .stage) (lengthOf p (j .kind))
-
-abbrev pub ownQuestions : Plan → List Job → Event → List (Question Answer)
-ownQuestions p js (Load n t) =
-    ask (inRange n maxNumber) BadNumber
-    ∷ ask (not (isActive n js)) WrongActivity
-    ∷ ask (inRange t (p .types)) UnknownType
-    ∷ ask (ltb (length js) maxJobs) Full
-    ∷ keptQuestions p (jobsAfter js (Load n t))
-ownQuestions p js (Advance n) =
-    ask (inRange n maxNumber) BadNumber
-    ∷ ask (isActive n js) WrongActivity
-    ∷ ask (hasNext p (jobOf n js)) WrongStage
-    ∷ keptQuestions p (jobsAfter js (Advance n))
-ownQuestions p js (Unload n) =
-    ask (inRange n maxNumber) BadNumber
-    ∷ ask (isActive n js) WrongActivity
-    ∷ ask (isLast p (jobOf n js)) WrongStage
-    ∷ keptQuestions p (jobsAfter js (Unload n))
-
-abbrev pub eventQuestions : Plan → Table → Event → List (Question Answer)
-eventQuestions p t e = ask (sound p) UnsoundPlan ∷ ask (agrees p t) Disagreement ∷ ownQuestions p (jobsOf t) e
-
-unfoldable pub answer : Plan → Table → Event → Answer
-answer p t e = answerOf Admitted (eventQuestions p t e)
+Afterwards p js e P = (next : List Job) → LeadsTo p js e next → P next
 
 -- the paper's number and place of each answer
 abbrev pub answerNumbers : Answer → ℕ × ℕ
@@ -149,9 +76,86 @@ answerNumbers (RowBroken w) = (19, w)
 abbrev pub isAdmitted : Answer → Bool
 isAdmitted a = eqb (answerNumbers a .0) 0
 
+-- the answer has this number and this place
+abbrev pub Says : ℕ → ℕ → Answer → Type 0
+Says number place a = answerNumbers a ≡ (number, place)
+
+-- the event questions as they are worded: what is asked, and what the refusal says
+abbrev pub keptConditions : Plan → List Job → Event → List (Condition Answer)
+keptConditions p js e =
+    record {
+      holds = Afterwards p js e (KeepsCapacities p);
+      refusal = λ a. (r : ℕ) × Says 18 r a × (next : List Job) × LeadsTo p js e next × Exceeded p next r;
+    }
+    ∷ record {
+      holds = Afterwards p js e (KeepsRows p);
+      refusal = λ a. (w : ℕ) × Says 19 w a × (next : List Job) × LeadsTo p js e next × Broken p next w;
+    }
+    ∷ []
+
+abbrev pub ownConditions : Plan → List Job → Event → List (Condition Answer)
+ownConditions p js (Load n t) =
+    asks (InRange n maxNumber) (Says 13 0)
+    ∷ asks (¬ Active n js) (Says 14 0)
+    ∷ asks (InRange t (p .types)) (Says 15 0)
+    ∷ asks (length js < maxJobs) (Says 16 0)
+    ∷ keptConditions p js (Load n t)
+ownConditions p js (Advance n) =
+    asks (InRange n maxNumber) (Says 13 0)
+    ∷ asks (Active n js) (Says 14 0)
+    ∷ asks ((a : Active n js) → HasNext p (a .job)) (Says 17 0)
+    ∷ keptConditions p js (Advance n)
+ownConditions p js (Unload n) =
+    asks (InRange n maxNumber) (Says 13 0)
+    ∷ asks (Active n js) (Says 14 0)
+    ∷ asks ((a : Active n js) → IsLast p (a .job)) (Says 17 0)
+    ∷ keptConditions p js (Unload n)
+
+abbrev pub eventConditions : Plan → Table → Event → List (Condition Answer)
+eventConditions p t e = asks (Sound p) (Says 11 0) ∷ asks (Agrees p t) (Says 12 0) ∷ ownConditions p (jobsOf t) e
+
+-- the same, computed: the jobs after an event, and its questions
+abbrev pub jobsAfter : Plan → List Job → Event → List Job
+jobsAfter p js (Load n t) = loaded n t js
+jobsAfter p js (Advance n) = advanced p n js
+jobsAfter p js (Unload n) = unloaded n js
+
+abbrev pub keptQuestions : Plan → List Job → List (Question Answer)
+keptQuestions p next = ask (eqb (exceeded p next) 0) (OverCapacity (exceeded p next)) ∷ ask (eqb (broken p next) 0) (RowBroken (broken p next)) ∷ []
+
+abbrev pub hasNext : Plan → Job → Bool
+hasNext p j = ltb (j .stage) (lengthOf p (j .kind))
+
+abbrev pub isLast : Plan → Job → Bool
+isLast p j = eqb (j .stage) (lengthOf p (j .kind))
+
+abbrev pub ownQuestions : Plan → List Job → Event → List (Question Answer)
+ownQuestions p js (Load n t) =
+    ask (inRange n maxNumber) BadNumber
+    ∷ ask (not (isActive n js)) WrongActivity
+    ∷ ask (inRange t (p .types)) UnknownType
+    ∷ ask (ltb (length js) maxJobs) Full
+    ∷ keptQuestions p (jobsAfter p js (Load n t))
+ownQuestions p js (Advance n) =
+    ask (inRange n maxNumber) BadNumber
+    ∷ ask (isActive n js) WrongActivity
+    ∷ ask (hasNext p (jobOf n js)) WrongStage
+    ∷ keptQuestions p (jobsAfter p js (Advance n))
+ownQuestions p js (Unload n) =
+    ask (inRange n maxNumber) BadNumber
+    ∷ ask (isActive n js) WrongActivity
+    ∷ ask (isLast p (jobOf n js)) WrongStage
+    ∷ keptQuestions p (jobsAfter p js (Unload n))
+
+abbrev pub eventQuestions : Plan → Table → Event → List (Question Answer)
+eventQuestions p t e = ask (sound p) UnsoundPlan ∷ ask (agrees p t) Disagreement ∷ ownQuestions p (jobsOf t) e
+
+unfoldable pub answer : Plan → Table → Event → Answer
+answer p t e = answerOf Admitted (eventQuestions p t e)
+
 -- the table after an event: a refusal hands back the same
 unfoldable pub tableAfter : Plan → Table → Event → Table
-tableAfter p t e = cond (isAdmitted (answer p t e)) (tableOf (jobsAfter (jobsOf t) e)) t
+tableAfter p t e = cond (isAdmitted (answer p t e)) (tableOf (jobsAfter p (jobsOf t) e)) t
 
 abbrev pub outcome : Plan → Table → Event → Outcome
 outcome p t e = record { answer = answer p t e; table = tableAfter p t e }
@@ -160,7 +164,7 @@ outcome p t e = record { answer = answer p t e; table = tableAfter p t e }
 -- agrees with the plan; otherwise the table is unchanged and the answer names the first question that failed
 pub record Judged (p : Plan) (t : Table) (e : Event) : Type 0 where
   pub exact : (answer p t e ≡ Admitted) ↔ Allowed p (jobsOf t) e
-  pub named : (a : Allowed p (jobsOf t) e) → tableAfter p t e ≡ tableOf (a .next)
+  pub table : (a : Allowed p (jobsOf t) e) → tableAfter p t e ≡ tableOf (a .next)
   pub agrees : Agrees p (tableAfter p t e)
   pub refused : answer p t e ≢ Admitted → tableAfter p t e ≡ t
-  pub first : FirstFailure Admitted (eventConditions p t e) (answer p t e)
+  pub first : FirstFailure (Says 0 0) (eventConditions p t e) (answer p t e)

@@ -26,10 +26,10 @@ demandAt p j r = demandOf p r (j .kind) (j .stage)
 
 -- what an advance takes, the new demand above the old, and gives back, the old above the new
 abbrev pub takes : Plan → Job → ℕ → ℕ
-takes p j r = demandAt p (advancedJob j) r - demandAt p j r
+takes p j r = demandAt p (advancedJob p j) r - demandAt p j r
 
 abbrev pub gives : Plan → Job → ℕ → ℕ
-gives p j r = demandAt p j r - demandAt p (advancedJob j) r
+gives p j r = demandAt p j r - demandAt p (advancedJob p j) r
 
 -- an admitted event is written down; a move of a job that the ledger lacks changes nothing
 abbrev pub written : Plan → Ledger → Event → Ledger
@@ -38,7 +38,7 @@ written p l (Load n t) =
 written p l (Advance n) =
     cond (isActive n (l .jobs))
     (record {
-      jobs = advanced n (l .jobs);
+      jobs = advanced p n (l .jobs);
       taken = λ (r : ℕ). l .taken r + takes p (jobOf n (l .jobs)) r;
       given = λ (r : ℕ). l .given r + gives p (jobOf n (l .jobs)) r;
     })

@@ -14,7 +14,7 @@ pub enum Event {
     Unload(u32),
 }
 
-// What an event is answered; the numbers and places are `answerNumber` and `answerPlace` of specs/Events.
+// What an event is answered; its numbers are `answerNumbers` of specs/Events.
 pub enum Answer {
     Admitted,
     UnsoundPlan,
@@ -34,7 +34,7 @@ pub struct Outcome {
     pub table: Table,
 }
 
-// How a drain ends; the numbers are `endNumber` of specs/Drain.
+// How a drain ends; its number is `endNumber` of specs/Drain.
 pub enum End {
     Emptied,
     UnsoundPlan,

@@ -205,10 +205,10 @@ module _ {A : Type 0} (isOk : A → Bool) (ok : A) where
   choose F R x y (holding h) refusal rest = inr (h, rest h)
   choose F R x y (failing h) refusal rest = inl (h, refusal h)
 
-  pub first-failure : {qs : List (Question A)} {cs : List (Condition A)} → Answers isOk qs cs → FirstFailure ok cs (answerOf ok qs)
-  first-failure done = refl
-  first-failure (asked {q} {c} {qs} {cs} d r o rest) =
-      choose (FirstFailure ok cs) (c .refusal) (answerOf ok qs) (q .refusal) d r (λ h. first-failure (rest h))
+  pub first-failure : (Ok : A → Type 0) → Ok ok → {qs : List (Question A)} {cs : List (Condition A)} → Answers isOk qs cs → FirstFailure Ok cs (answerOf ok qs)
+  first-failure Ok good done = good
+  first-failure Ok good (asked {q} {c} {qs} {cs} d r o rest) =
+      choose (FirstFailure Ok cs) (c .refusal) (answerOf ok qs) (q .refusal) d r (λ h. first-failure Ok good (rest h))
 
   pub accepted : {qs : List (Question A)} {cs : List (Condition A)} → Answers isOk qs cs → AllHold cs → answerOf ok qs ≡ ok
   accepted done h = refl

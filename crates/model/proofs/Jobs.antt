@@ -70,31 +70,31 @@ distinct-added (x ∷ js) j n h = (
     other e = n (record { before = []; job = x; after = js; whole = refl; numbered = sym e })
 
 -- the job that a number names, and the lists after its advance and its unload
-pub record Found (n : ℕ) (js : List Job) (a : Active n js) : Type 0 where
+pub record Found (p : Plan) (n : ℕ) (js : List Job) (a : Active n js) : Type 0 where
   pub job : jobOf n js ≡ a .job
-  pub advance : advanced n js ≡ a .before ++ advancedJob (a .job) ∷ a .after
+  pub advance : advanced p n js ≡ a .before ++ advancedJob p (a .job) ∷ a .after
   pub unload : unloaded n js ≡ a .before ++ a .after
 
-found-at : (xs : List Job) (j : Job) (ys : List Job) → Distinct (numbers (xs ++ j ∷ ys)) → Found (j .number) (xs ++ j ∷ ys) (record { before = xs; job = j; after = ys; whole = refl; numbered = refl })
-found-at [] j ys h =
+found-at : (p : Plan) (xs : List Job) (j : Job) (ys : List Job) → Distinct (numbers (xs ++ j ∷ ys)) → Found p (j .number) (xs ++ j ∷ ys) (record { before = xs; job = j; after = ys; whole = refl; numbered = refl })
+found-at p [] j ys h =
     record {
       job = rw (eq-eqb (j .number) (j .number) refl) refl;
       advance = rw (eq-eqb (j .number) (j .number) refl) refl;
       unload = rw (eq-eqb (j .number) (j .number) refl) refl;
     }
-found-at (x ∷ xs) j ys h =
+found-at p (x ∷ xs) j ys h =
     let other = each-at (OtherJob (x .number)) xs j ys (each-number (Other (x .number)) (xs ++ j ∷ ys) (h .0)) in
     let miss : eqb (x .number) (j .number) ≡ false = ne-eqb (x .number) (j .number) (λ e. other (sym e)) in
-    let rest = found-at xs j ys (h .1) in
+    let rest = found-at p xs j ys (h .1) in
     record {
       job = rw miss (rest .job);
       advance = rw miss (ap (λ (js : List Job). x ∷ js) (rest .advance));
       unload = rw miss (ap (λ (js : List Job). x ∷ js) (rest .unload));
     }
 
-pub found : {n : ℕ} {js : List Job} (a : Active n js) → Distinct (numbers js) → Found n js a
-found {n} {js} a d =
-    let f = found-at (a .before) (a .job) (a .after) (subst (λ (js : List Job). Distinct (numbers js)) (a .whole) d) in
+pub found : (p : Plan) {n : ℕ} {js : List Job} (a : Active n js) → Distinct (numbers js) → Found p n js a
+found p {n} {js} a d =
+    let f = found-at p (a .before) (a .job) (a .after) (subst (λ (js : List Job). Distinct (numbers js)) (a .whole) d) in
     record {
       job = rw (a .whole, ← a .numbered) (f .job);
       advance = rw (a .whole, ← a .numbered) (f .advance);

@@ -93,7 +93,7 @@ module _ (p : Plan) (rule : UpstreamRule p) where
             record {
               q = k;
               from = le-refl k;
-              within = stage .1 .1;
+              within = stage .1;
               demands = omega (arith, unit .one, ap (λ (i : ℕ). demandOf p i t k) same);
               between = λ i from below. absurd (omega arith);
             }
@@ -125,7 +125,7 @@ module _ (p : Plan) (rule : UpstreamRule p) where
     here : Placed p j
     here = each-at (Placed p) xs j ys placed
 
-    there : Placed p (advancedJob j)
+    there : Placed p (advancedJob p j)
     there = (here .0, omega arith)
 
     -- nobody is counted in the row of a resource below the lowest rank held
@@ -141,19 +141,19 @@ module _ (p : Plan) (rule : UpstreamRule p) where
             ⊎-elim (λ counted. absurd (omega (arith, upstream-rank (i .kind) (i .stage) (h .0) r range (counted .0), h .1))) (λ free. free .1)
             (weight-cases (i .kind) (i .stage) (h .0) r range)
 
-    advance-keeps-rows : KeepsRows p (xs ++ advancedJob j ∷ ys)
+    advance-keeps-rows : KeepsRows p (xs ++ advancedJob p j ∷ ys)
     advance-keeps-rows r range = step (weight-cases (j .kind) (j .stage) here r range′) (weight-cases (j .kind) (j .stage + 1) there r range′)
       where
         range′ : InRange r (p .resources)
         range′ = omega (arith, rule .as-many-rows)
 
-        moved : rowSum p r (xs ++ advancedJob j ∷ ys) + weightOf p r (j .kind) (j .stage) ≡ rowSum p r (xs ++ j ∷ ys) + weightOf p r (j .kind) (j .stage + 1)
-        moved = over-stages-moved p (weightOf p r) xs ys j (advancedJob j) here there
+        moved : rowSum p r (xs ++ advancedJob p j ∷ ys) + weightOf p r (j .kind) (j .stage) ≡ rowSum p r (xs ++ j ∷ ys) + weightOf p r (j .kind) (j .stage + 1)
+        moved = over-stages-moved p (weightOf p r) xs ys j (advancedJob p j) here there
 
         Cases : ℕ → Type 0
         Cases k = (UpstreamOf p r (j .kind) k × (weightOf p r (j .kind) k ≡ 1)) ⊎ ((¬ UpstreamOf p r (j .kind) k) × (weightOf p r (j .kind) k ≡ 0))
 
-        step : Cases (j .stage) → Cases (j .stage + 1) → rowSum p r (xs ++ advancedJob j ∷ ys) ≤ boundOf p r
+        step : Cases (j .stage) → Cases (j .stage + 1) → rowSum p r (xs ++ advancedJob p j ∷ ys) ≤ boundOf p r
         step old (inr new) = omega (arith, moved, rows r range, new .1)
         step (inl old) (inl new) = omega (arith, moved, rows r range, old .1, new .1)
         step (inr old) (inl new) =
@@ -161,31 +161,31 @@ module _ (p : Plan) (rule : UpstreamRule p) where
             omega (arith, moved, uncounted r range′ (omega arith), old .1, new .1, rule .bounds r range)
 
   -- a job whose advance, if it has a next stage, keeps every capacity and every row
-  pub record Movable (js : List Job) : Type 0 where
+  pub record FreeJob (js : List Job) : Type 0 where
     pub before : List Job
     pub job : Job
     pub after : List Job
     pub whole : js ≡ before ++ job ∷ after
-    pub capacities : job .stage < lengthOf p (job .kind) → KeepsCapacities p (before ++ advancedJob job ∷ after)
-    pub rows : job .stage < lengthOf p (job .kind) → KeepsRows p (before ++ advancedJob job ∷ after)
+    pub capacities : job .stage < lengthOf p (job .kind) → KeepsCapacities p (before ++ advancedJob p job ∷ after)
+    pub rows : job .stage < lengthOf p (job .kind) → KeepsRows p (before ++ advancedJob p job ∷ after)
 
-  pub progress : (js : List Job) → js ≢ [] → Each (Placed p) js → KeepsRows p js → Movable js
+  pub progress : (js : List Job) → js ≢ [] → Each (Placed p) js → KeepsRows p js → FreeJob js
   progress [] some placed rows = absurd (some refl)
-  progress (x ∷ js) some placed rows = movable (least-entry rankHeldBy x js)
+  progress (x ∷ js) some placed rows = free (least-entry rankHeldBy x js)
     where
-      movable : Least rankHeldBy (x ∷ js) → Movable (x ∷ js)
-      movable l =
+      free : Least rankHeldBy (x ∷ js) → FreeJob (x ∷ js)
+      free l =
           record {
             before = l .before;
             job = l .entry;
             after = l .after;
             whole = l .whole;
-            capacities = λ next. rows-keep-capacities moved (each-moved (Placed p) (l .before) (l .entry) (advancedJob (l .entry)) (l .after) (there-of next) placed′) (kept next);
+            capacities = λ next. rows-keep-capacities moved (each-moved (Placed p) (l .before) (l .entry) (advancedJob p (l .entry)) (l .after) (there-of next) placed′) (kept next);
             rows = kept;
           }
         where
           moved : List Job
-          moved = l .before ++ advancedJob (l .entry) ∷ l .after
+          moved = l .before ++ advancedJob p (l .entry) ∷ l .after
 
           placed′ : Each (Placed p) (l .before ++ l .entry ∷ l .after)
           placed′ = subst (Each (Placed p)) (l .whole) placed
@@ -195,5 +195,5 @@ module _ (p : Plan) (rule : UpstreamRule p) where
               advance-keeps-rows (l .before) (l .after) (l .entry) placed′ (subst (KeepsRows p) (l .whole) rows)
               (subst (Each (λ (i : Job). rankHeldBy (l .entry) ≤ rankHeldBy i)) (l .whole) (l .least)) next
 
-          there-of : l .entry .stage < lengthOf p (l .entry .kind) → Placed p (advancedJob (l .entry))
+          there-of : l .entry .stage < lengthOf p (l .entry .kind) → Placed p (advancedJob p (l .entry))
           there-of next = (each-at (Placed p) (l .before) (l .entry) (l .after) placed′ .0, omega arith)

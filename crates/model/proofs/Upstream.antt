@@ -10,9 +10,8 @@ use lib.Dec.{eqb}
 use Rattle.model.specs.Numbers.{InRange, inRange, Lowest}
 use Rattle.model.specs.Questions.{FirstFailure}
 use Rattle.model.specs.Plan.{capacityOf, rankOf, boundOf, lengthOf, demandOf, weightOf}
-use Rattle.model.specs.Upstream.{RankedUpTo, UpstreamOf, OneUnit, OneUnits, UpstreamRow, UpstreamBound, UpstreamRule, checkConditions, rankedUpTo, upstreamOf, oneUnit, faultyStage, faultyType, upstreamRow, faultyRow, faultyBound, checkQuestions, check, isMeets}
+use Rattle.model.specs.Upstream.{RankedUpTo, UpstreamOf, OneUnit, OneUnits, UpstreamRow, UpstreamBound, UpstreamRule, checkConditions, rankedUpTo, upstreamOf, oneUnit, faultyStage, faultyType, upstreamRow, faultyRow, faultyBound, checkQuestions, check, isMeets, CheckSays}
 use Rattle.model.specs.declared.Plan.{Plan}
-use Rattle.model.specs.declared.Check.{Check}
 use Rattle.model.specs.declared.Check.the-variants.{Meets, NotOneUnit, WrongWeight, WrongBound}
 use Rattle.model.proofs.Decide.{Decides, holding, failing, decides-iff, _and_, decides-le, decides-lt, decides-eq, decides-range, decides-all, decides-some, decides-lowest, lowest-found, Answers, AllHold, done, asked, first-failure, accepted, all-hold}
 use Rattle.model.proofs.Sums.{decides-single}
@@ -41,8 +40,8 @@ pub decides-upstream : (p : Plan) (resource t k : ℕ) → 1 ≤ k → Decides (
 unfolding upstreamOf
 decides-upstream p resource t k first =
     decides-iff
-    (λ h. record { q = h .0; from = h .2 .0 .0; within = h .1 .1; demands = h .2 .0 .1; between = λ i low high. h .2 .1 i (omega arith) (omega arith) })
-    (λ u. (u .q, (omega (arith, u .from), u .within), ((u .from, u .demands), λ i h low. u .between i (omega arith) (omega arith))))
+    (λ h. record { q = h .0; from = h .2 .0 .0; within = h .1; demands = h .2 .0 .1; between = λ i low high. h .2 .1 i (omega arith) (omega arith) })
+    (λ u. (u .q, u .within, ((u .from, u .demands), λ i h low. u .between i (omega arith) (omega arith))))
     (decides-some _ _ (lengthOf p t) (λ q h.
     decides-le k q
     and decides-le 1 (demandOf p resource t q)
@@ -65,8 +64,8 @@ module _ (p : Plan) where
       asked (decides-all _ _ (p .resources) (λ r _. decides-le 1 (rankOf p r))) (λ _. refl) refl λ _.
       asked (decides-lowest _ _ (p .types) types) (λ no. faulty-stage (lowest-found _ _ (p .types) types no)) refl λ _.
       asked (decides-eq (p .rows) (p .resources)) (λ _. refl) refl λ _.
-      asked (decides-lowest _ _ (p .rows) rows) (λ no. faulty-place WrongWeight (lowest-found _ _ (p .rows) rows no)) refl λ _.
-      asked (decides-lowest _ _ (p .rows) bounds) (λ no. faulty-place WrongBound (lowest-found _ _ (p .rows) bounds no)) refl λ _.
+      asked (decides-lowest _ _ (p .rows) rows) (λ no. faulty-row (lowest-found _ _ (p .rows) rows no)) refl λ _.
+      asked (decides-lowest _ _ (p .rows) bounds) (λ no. faulty-bound (lowest-found _ _ (p .rows) bounds no)) refl λ _.
       done
     where
       stages : (t k : ℕ) → InRange k (lengthOf p t) → Decides (OneUnit p t k) (oneUnit p t k)
@@ -75,11 +74,14 @@ module _ (p : Plan) where
       types : (t : ℕ) → InRange t (p .types) → Decides (OneUnits p t) (eqb (faultyStage p t) 0)
       types t _ = decides-lowest _ _ (lengthOf p t) (stages t)
 
-      faulty-stage : Lowest (p .types) (OneUnits p) (faultyType p) → (t k : ℕ) × (NotOneUnit (faultyType p) (faultyStage p (faultyType p)) ≡ NotOneUnit t k) × Lowest (p .types) (OneUnits p) t × Lowest (lengthOf p t) (OneUnit p t) k
+      faulty-stage : Lowest (p .types) (OneUnits p) (faultyType p) → (t k : ℕ) × CheckSays 22 t k (NotOneUnit (faultyType p) (faultyStage p (faultyType p))) × Lowest (p .types) (OneUnits p) t × Lowest (lengthOf p t) (OneUnit p t) k
       faulty-stage l = (faultyType p, faultyStage p (faultyType p), refl, l, lowest-found _ _ (lengthOf p (faultyType p)) (stages (faultyType p)) (l .fails))
 
-      faulty-place : {P : ℕ → Type 0} {n i : ℕ} (refusal : ℕ → Check) → Lowest n P i → (r : ℕ) × (refusal i ≡ refusal r) × Lowest n P r
-      faulty-place {i} refusal l = (i, refl, l)
+      faulty-row : Lowest (p .rows) (UpstreamRow p) (faultyRow p) → (r : ℕ) × CheckSays 24 r 0 (WrongWeight (faultyRow p)) × Lowest (p .rows) (UpstreamRow p) r
+      faulty-row l = (faultyRow p, refl, l)
+
+      faulty-bound : Lowest (p .rows) (UpstreamBound p) (faultyBound p) → (r : ℕ) × CheckSays 25 r 0 (WrongBound (faultyBound p)) × Lowest (p .rows) (UpstreamBound p) r
+      faulty-bound l = (faultyBound p, refl, l)
 
       rows : (r : ℕ) → InRange r (p .rows) → Decides (UpstreamRow p r) (upstreamRow p r)
       rows r _ = decides-upstream-row p r
@@ -87,9 +89,9 @@ module _ (p : Plan) where
       bounds : (r : ℕ) → InRange r (p .rows) → Decides (UpstreamBound p r) (inRange (boundOf p r) (capacityOf p r))
       bounds r _ = decides-range (boundOf p r) (capacityOf p r)
 
-  pub check-first-failure : FirstFailure Meets (checkConditions p) (check p)
+  pub check-first-failure : FirstFailure (CheckSays 0 0 0) (checkConditions p) (check p)
   unfolding check
-  check-first-failure = first-failure isMeets Meets check-answers
+  check-first-failure = first-failure isMeets Meets (CheckSays 0 0 0) refl check-answers
 
   pub check-exact : (check p ≡ Meets) ↔ UpstreamRule p
   unfolding check

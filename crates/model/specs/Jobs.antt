@@ -1,5 +1,5 @@
 -- Jobs in the order they were loaded: what they hold, how a list of them changes, and when it agrees with a plan.
--- Jobs meet only in the sums below (Condition 4 of source document 003).
+-- Over resources and rows jobs meet only in the sums below (Condition 4 of source document 003).
 use Prim.Native.Nat.{ℕ, _+_, _*_, _≤_}
 use mathlib.Core.Bool.{Bool, true, false, cond, not, _&&_, _||_}
 use mathlib.Core.List.{List, [], _∷_, _++_, map}
@@ -69,35 +69,35 @@ pub record Active (n : ℕ) (js : List Job) : Type 0 where
   pub numbered : job .number ≡ n
 
 -- the same, computed: is the number active, and which job has it
-abbrev pub isNumbered : ℕ → Job → Bool
-isNumbered n j = eqb (j .number) n
+abbrev pub hasNumber : ℕ → Job → Bool
+hasNumber n j = eqb (j .number) n
 
 abbrev pub isActive : ℕ → List Job → Bool
 isActive n [] = false
-isActive n (j ∷ js) = isNumbered n j || isActive n js
+isActive n (j ∷ js) = hasNumber n j || isActive n js
 
 abbrev pub jobOf : ℕ → List Job → Job
 jobOf n [] = noJob
-jobOf n (j ∷ js) = cond (isNumbered n j) j (jobOf n js)
+jobOf n (j ∷ js) = cond (hasNumber n j) j (jobOf n js)
 
 -- a job as it is loaded, and as it stands after an advance
 abbrev pub loadedJob : ℕ → ℕ → Job
 loadedJob n t = record { number = n; kind = t; stage = 1 }
 
-abbrev pub advancedJob : Job → Job
-advancedJob j = record { number = j .number; kind = j .kind; stage = stageAfter (j .stage) }
+abbrev pub advancedJob : Plan → Job → Job
+advancedJob p j = record { number = j .number; kind = j .kind; stage = stageAfter p (j .kind) (j .stage) }
 
 -- the list after a load, an advance and an unload: a load comes last, an advance keeps its place, an unload closes the gap
 abbrev pub loaded : ℕ → ℕ → List Job → List Job
 loaded n t js = js ++ loadedJob n t ∷ []
 
-abbrev pub advanced : ℕ → List Job → List Job
-advanced n [] = []
-advanced n (j ∷ js) = cond (isNumbered n j) (advancedJob j ∷ js) (j ∷ advanced n js)
+abbrev pub advanced : Plan → ℕ → List Job → List Job
+advanced p n [] = []
+advanced p n (j ∷ js) = cond (hasNumber n j) (advancedJob p j ∷ js) (j ∷ advanced p n js)
 
 abbrev pub unloaded : ℕ → List Job → List Job
 unloaded n [] = []
-unloaded n (j ∷ js) = cond (isNumbered n j) js (j ∷ unloaded n js)
+unloaded n (j ∷ js) = cond (hasNumber n j) js (j ∷ unloaded n js)
 
 abbrev pub numbers : List Job → List ℕ
 numbers js = map (λ (j : Job). j .number) js

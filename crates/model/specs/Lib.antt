@@ -1,5 +1,6 @@
--- What the proofs are about, to be read in this order. A name with a capital is a condition or a sum as document 01 and the
--- papers word it; the same name without is its test, which computes. The laws that join the two are in proofs/.
+-- What the proofs are about, to be read in this order. A type with a capital is a condition as document 01 words it, and
+-- so are the lists named ..Conditions; what follows "the same, computed" is what is answered. The laws that join the two are
+-- in proofs/.
 pub mod Limits
 pub mod Numbers
 pub mod Questions

@@ -3,7 +3,7 @@
 -- numbers, from 1. Stages follow in number order, so every job ends after finitely many (Condition 1) and passes every
 -- stage of its type (Condition 2).
 use Prim.Native.Nat.{ℕ, _+_, _-_, _≤_}
-use mathlib.Core.Bool.{Bool, _&&_}
+use mathlib.Core.Bool.{Bool, cond, _&&_}
 use lib.ListN.{replicate}
 use Rattle.model.specs.Limits.{maxResources, maxTypes, maxRows, maxAllStages}
 use Rattle.model.specs.Numbers.{InRange, inRange, entry, at, sumTo}
@@ -53,9 +53,10 @@ isStage p t k = inRange t (p .types) && inRange k (lengthOf p t)
 unfoldable pub allStages : Plan → ℕ
 allStages p = sumTo (p .types) (lengthOf p)
 
--- stage k of type t: the stages are kept type by type
+-- stage k of type t, where the plan has it: the stages are kept type by type
 unfoldable pub stageOf : Plan → ℕ → ℕ → Stage
-stageOf p t k = entry (p .stages) (sumTo (t - 1) (lengthOf p) + k) noStage
+unfolding isStage
+stageOf p t k = cond (isStage p t k) (entry (p .stages) (sumTo (t - 1) (lengthOf p) + k) noStage) noStage
 
 -- the units of resource r that stage k of type t needs
 unfoldable pub demandOf : Plan → ℕ → ℕ → ℕ → ℕ
@@ -68,6 +69,6 @@ weightOf p w t k = at (stageOf p t k .weight) w
 abbrev pub Demands : Plan → ℕ → ℕ → ℕ → Type 0
 Demands p t k r = 1 ≤ demandOf p r t k
 
--- the stage after stage k
-abbrev pub stageAfter : ℕ → ℕ
-stageAfter k = k + 1
+-- the stage of type t after stage k
+abbrev pub stageAfter : Plan → ℕ → ℕ → ℕ
+stageAfter p t k = k + 1

@@ -1,7 +1,6 @@
 -- Questions in an order: the first that fails decides the answer.
 use mathlib.Core.Bool.{Bool, cond}
 use mathlib.Core.List.{List, [], _∷_}
-use mathlib.Core.Path.{_≡_}
 use mathlib.Core.Logic.{_⊎_}
 
 -- a question as it is computed: is it met, and what is answered if not
@@ -22,10 +21,10 @@ pub record Condition (A : Type 0) : Type 1 where
   pub holds : Type 0
   pub refusal : A → Type 0
 
-abbrev pub asks : {A : Type 0} → Type 0 → A → Condition A
-asks P a = record { holds = P; refusal = λ b. b ≡ a }
+abbrev pub asks : {A : Type 0} → Type 0 → (A → Type 0) → Condition A
+asks P says = record { holds = P; refusal = says }
 
--- the answer is that of the first question that fails, `ok` where none does
-abbrev pub FirstFailure : {A : Type 0} → A → List (Condition A) → A → Type 0
-FirstFailure ok [] a = a ≡ ok
+-- the answer is that of the first question that fails, and `ok` says what it is where none does
+abbrev pub FirstFailure : {A : Type 0} → (A → Type 0) → List (Condition A) → A → Type 0
+FirstFailure ok [] a = ok a
 FirstFailure ok (q ∷ qs) a = ((¬ q .holds) × q .refusal a) ⊎ (q .holds × FirstFailure ok qs a)

@@ -21,7 +21,7 @@ RankedUpTo p target t k = (r : ℕ) × InRange r (p .resources) × Demands p t k
 pub record UpstreamOf (p : Plan) (resource t k : ℕ) : Type 0 where
   pub q : ℕ
   pub from : k ≤ q
-  pub within : q ≤ lengthOf p t
+  pub within : InRange q (lengthOf p t)
   pub demands : Demands p t q resource
   pub between : (i : ℕ) → k ≤ i → i < q → RankedUpTo p resource t i
 
@@ -55,23 +55,40 @@ pub record UpstreamRule (p : Plan) : Type 0 where
   pub rows : (r : ℕ) → InRange r (p .rows) → UpstreamRow p r
   pub bounds : (r : ℕ) → InRange r (p .rows) → UpstreamBound p r
 
+-- the paper's number and two places of each answer, and whether it is 0
+abbrev pub checkNumbers : Check → ℕ × ℕ × ℕ
+checkNumbers Meets = (0, 0, 0)
+checkNumbers UnsoundPlan = (11, 0, 0)
+checkNumbers NoRank = (21, 0, 0)
+checkNumbers (NotOneUnit t k) = (22, t, k)
+checkNumbers RowCount = (23, 0, 0)
+checkNumbers (WrongWeight r) = (24, r, 0)
+checkNumbers (WrongBound r) = (25, r, 0)
+
+abbrev pub isMeets : Check → Bool
+isMeets c = eqb (checkNumbers c .0) 0
+
+-- the answer has this number and these two places
+abbrev pub CheckSays : ℕ → ℕ → ℕ → Check → Type 0
+CheckSays number first second c = checkNumbers c ≡ (number, first, second)
+
 -- the check's questions as they are worded: what is asked, and the number and place of the refusal
 abbrev pub checkConditions : Plan → List (Condition Check)
 checkConditions p =
-    asks (Sound p) UnsoundPlan
-    ∷ asks (Ranked p) NoRank
+    asks (Sound p) (CheckSays 11 0 0)
+    ∷ asks (Ranked p) (CheckSays 21 0 0)
     ∷ record {
       holds = (t : ℕ) → InRange t (p .types) → OneUnits p t;
-      refusal = λ a. (t k : ℕ) × (a ≡ NotOneUnit t k) × Lowest (p .types) (OneUnits p) t × Lowest (lengthOf p t) (OneUnit p t) k;
+      refusal = λ a. (t k : ℕ) × CheckSays 22 t k a × Lowest (p .types) (OneUnits p) t × Lowest (lengthOf p t) (OneUnit p t) k;
     }
-    ∷ asks (p .rows ≡ p .resources) RowCount
+    ∷ asks (p .rows ≡ p .resources) (CheckSays 23 0 0)
     ∷ record {
       holds = (r : ℕ) → InRange r (p .rows) → UpstreamRow p r;
-      refusal = λ a. (r : ℕ) × (a ≡ WrongWeight r) × Lowest (p .rows) (UpstreamRow p) r;
+      refusal = λ a. (r : ℕ) × CheckSays 24 r 0 a × Lowest (p .rows) (UpstreamRow p) r;
     }
     ∷ record {
       holds = (r : ℕ) → InRange r (p .rows) → UpstreamBound p r;
-      refusal = λ a. (r : ℕ) × (a ≡ WrongBound r) × Lowest (p .rows) (UpstreamBound p) r;
+      refusal = λ a. (r : ℕ) × CheckSays 25 r 0 a × Lowest (p .rows) (UpstreamBound p) r;
     }
     ∷ []
 
@@ -120,16 +137,3 @@ checkQuestions p =
 
 unfoldable pub check : Plan → Check
 check p = answerOf Meets (checkQuestions p)
-
--- the paper's number and two places of each answer, and whether it is 0
-abbrev pub checkNumbers : Check → ℕ × ℕ × ℕ
-checkNumbers Meets = (0, 0, 0)
-checkNumbers UnsoundPlan = (11, 0, 0)
-checkNumbers NoRank = (21, 0, 0)
-checkNumbers (NotOneUnit t k) = (22, t, k)
-checkNumbers RowCount = (23, 0, 0)
-checkNumbers (WrongWeight r) = (24, r, 0)
-checkNumbers (WrongBound r) = (25, r, 0)
-
-abbrev pub isMeets : Check → Bool
-isMeets c = eqb (checkNumbers c .0) 0

@@ -26,7 +26,7 @@ pub struct Job {
     pub stage: u32,
 }
 
-// What the upstream check answers; the numbers and places are `checkNumber` and `checkPlace` of specs/Upstream.
+// What the upstream check answers; its numbers are `checkNumbers` of specs/Upstream.
 pub enum Check {
     Meets,
     UnsoundPlan,

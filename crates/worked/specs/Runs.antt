@@ -1,5 +1,6 @@
--- Document 01's starred runs that need no plan text, and the events of its whole run, as rows of one table: what is asked,
--- and the numbers that the paper gives for it.
+-- Document 01's starred runs that need no plan text, as rows of one table: what is asked, and the numbers that the paper
+-- gives for it. With them the events of its whole run, a number used again after its unload, and both sides of the largest
+-- number.
 use Prim.Native.Nat.{ℕ, zero, suc}
 use mathlib.Core.List.{List, [], _∷_, _++_, map}
 use Rattle.model.specs.Upstream.{check, checkNumbers}
@@ -38,8 +39,8 @@ lines p t (e ∷ es) =
     a .0 ∷ a .1 ∷ next .count ∷ lines p next es
 
 -- the numbers that the definitions give: of a check its answer and two places; of jobs against the rows each row's sum
--- and the row broken; of a drain its answer and moves, of an event its answer and place, both with the stages left; of
--- events from the empty table what is printed of each
+-- and the row broken; of a drain its answer and moves, of an event its answer and place, both with the stages at which the
+-- jobs then stand; of events from the empty table the lines above
 unfoldable pub result : Run → List ℕ
 unfolding sums stagesOf lines
 result (checked p) = let c = checkNumbers (check p) in c .0 ∷ c .1 ∷ c .2 ∷ []
@@ -78,6 +79,8 @@ rows =
     ∷ row (drained crossingPlan [] 0) (0 ∷ 0 ∷ [])
     ∷ row (drained withoutRows (jobsPerStage 1 1 0 1 1 0) 5) (32 ∷ 0 ∷ 1 ∷ 2 ∷ 1 ∷ 2 ∷ [])
     ∷ row (answered oneStation (jobsPerStage 1 0 0 0 0 0) (Advance 1)) (0 ∷ 0 ∷ 2 ∷ [])
+    ∷ row (followed oneStation (Load 7 1 ∷ Advance 7 ∷ Unload 7 ∷ Load 7 1 ∷ [])) (0 ∷ 0 ∷ 1 ∷ 0 ∷ 0 ∷ 1 ∷ 0 ∷ 0 ∷ 0 ∷ 0 ∷ 0 ∷ 1 ∷ [])
+    ∷ row (followed oneStation (Load 65536 1 ∷ Load 65535 1 ∷ [])) (13 ∷ 0 ∷ 0 ∷ 0 ∷ 0 ∷ 1 ∷ [])
     ∷ row (followed crossingPlan wholeRun)
     (0 ∷ 0 ∷ 1 ∷ 19 ∷ 2 ∷ 1 ∷ 0 ∷ 0 ∷ 1 ∷ 19 ∷ 2 ∷ 1 ∷ 0 ∷ 0 ∷ 1 ∷ 18 ∷ 3 ∷ 1 ∷ 0 ∷ 0 ∷ 0 ∷ 0 ∷ 0 ∷ 1 ∷ [])
     ∷ []
