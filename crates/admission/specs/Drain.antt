@@ -24,7 +24,7 @@ use Rattle.admission.specs.declared.End.{End}
 use Rattle.admission.specs.declared.End.the-variants.{Emptied, UnsoundPlan, Disagreement, OutOfBudget, NoMove}
 use Rattle.admission.specs.declared.Drained.{Drained}
 
--- the stages still before a job of type t at stage k, the present one included
+-- the stages still before a job of type t at stage k, the present one included, and those before all jobs
 abbrev pub stagesLeft : Plan → ℕ → ℕ → ℕ
 stagesLeft p t k = lengthOf p t - k + 1
 
@@ -70,6 +70,7 @@ endNumber Disagreement = 12
 endNumber OutOfBudget = 31
 endNumber NoMove = 32
 
+-- the end has this number
 abbrev pub EndSays : ℕ → End → Type 0
 EndSays number end = endNumber end ≡ number
 

@@ -32,11 +32,13 @@ pub record OneUnit (p : Plan) (t k : ℕ) : Type 0 where
   pub one : demandOf p resource t k ≡ 1
   pub others : (r : ℕ) → InRange r (p .resources) → r ≢ resource → demandOf p r t k ≡ 0
 
-abbrev pub Ranked : Plan → Type 0
-Ranked p = (r : ℕ) → InRange r (p .resources) → 1 ≤ rankOf p r
-
+-- every stage of type t does
 abbrev pub OneUnits : Plan → ℕ → Type 0
 OneUnits p t = (k : ℕ) → InRange k (lengthOf p t) → OneUnit p t k
+
+-- every resource has a rank
+abbrev pub Ranked : Plan → Type 0
+Ranked p = (r : ℕ) → InRange r (p .resources) → 1 ≤ rankOf p r
 
 -- row r is weighted 1 at every stage upstream of resource r and 0 elsewhere
 abbrev pub UpstreamRow : Plan → ℕ → Type 0

@@ -64,6 +64,8 @@ row r xs = record { asked = r; expected = xs }
 wholeRun : List Event
 wholeRun = Load 7 1 ∷ Load 8 2 ∷ Advance 7 ∷ Load 8 2 ∷ Advance 7 ∷ Load 8 2 ∷ Unload 7 ∷ Load 8 2 ∷ []
 
+-- in document 01's order: the upstream check, the rows of Equation 40, the drains, the advance within one station; then the
+-- further runs
 unfoldable pub rows : List Row
 unfolding row wholeRun
 rows =
