@@ -28,10 +28,6 @@ module _ {A : Type 0} (P : A → Type 0) where
   pub each-moved : (xs : List A) (y z : A) (ys : List A) → P z → Each P (xs ++ y ∷ ys) → Each P (xs ++ z ∷ ys)
   each-moved xs y z ys k h = let parts = each-append xs (y ∷ ys) h in append-each xs (z ∷ ys) (parts .0) (k, parts .1 .1)
 
-  pub each-all : ((x : A) → P x) → (xs : List A) → Each P xs
-  each-all h [] = tt
-  each-all h (x ∷ xs) = (h x, each-all h xs)
-
 pub each-map : {A : Type 0} (P Q : A → Type 0) → ((x : A) → P x → Q x) → (xs : List A) → Each P xs → Each Q xs
 each-map P Q f [] h = tt
 each-map P Q f (x ∷ xs) h = (f x (h .0), each-map P Q f xs (h .1))

@@ -1,10 +1,9 @@
 -- The computed test decides soundness: each part of the test decides the part of the definition that it computes, and the
 -- parts together are the record.
-use Prim.Native.Nat.{ℕ, zero, suc, _≤_}
+use Prim.Native.Nat.{ℕ, _≤_}
 use native.Mathlib.Omega.{arith}
 use mathlib.Core.Bool.{Bool}
 use mathlib.Core.List.{List}
-use lib.ListN.{replicate}
 use mathlib.Core.Logic.{_⊎_}
 use mathlib.Core.Path.{_≡_, refl}
 use Rattle.model.specs.Limits.{maxResources, maxTypes, maxRows, maxStages, maxAllStages, maxUnits, maxBound}
@@ -13,7 +12,6 @@ use Rattle.model.specs.Plan.{noStage, emptyPlan, capacityOf, rankOf, bou
 use Rattle.model.specs.Soundness.{ZeroBeyond, EmptyStage, AllRanked, NoneRanked, SoundStage, Sound, zeroBeyond, emptyStage, soundStage, soundCounts, soundRanks, soundBeyond, sound}
 use Rattle.model.specs.declared.Stage.{Stage}
 use Rattle.model.specs.declared.Plan.{Plan}
-use Rattle.model.proofs.Lists.{replicated}
 use Rattle.model.proofs.Decide.{Decides, holds, decides-iff, _and_, decides-or, decides-le, decides-eq, decides-range, decides-all, decides-some, decides-beyond}
 
 pub decides-zero-beyond : (n : ℕ) (xs : List ℕ) → Decides (ZeroBeyond n xs) (zeroBeyond n xs)
@@ -21,13 +19,6 @@ decides-zero-beyond n xs = decides-beyond {P = λ x. x ≡ 0} (λ x. decides-eq 
 
 pub decides-empty-stage : (s : Stage) → Decides (EmptyStage s) (emptyStage s)
 decides-empty-stage s = decides-zero-beyond 0 (s .demand) and decides-zero-beyond 0 (s .weight)
-
-no-stage-empty : EmptyStage noStage
-no-stage-empty = (zeros maxResources, zeros maxRows)
-  where
-    zeros : (n : ℕ) → ZeroBeyond 0 (replicate n 0)
-    zeros n zero h = refl
-    zeros n (suc i) h = replicated n i 0
 
 -- over the stages of a plan
 pub decides-stages : (p : Plan) (P : ℕ → ℕ → Type 0) (f : ℕ → ℕ → Bool) → ((t k : ℕ) → IsStage p t k → Decides (P t k) (f t k)) → Decides ((t k : ℕ) → IsStage p t k → P t k) (allTo (p .types) (λ t. allTo (lengthOf p t) (f t)))
