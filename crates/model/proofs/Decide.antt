@@ -3,7 +3,7 @@
 -- worded one part by part.
 use Prim.Native.Nat.{ℕ, zero, suc, _≤_, _<_}
 use native.Mathlib.Omega.{arith}
-use mathlib.Core.Bool.{Bool, true, false, not, cond, _&&_, _||_, true≢false, false≢true}
+use mathlib.Core.Bool.{Bool, true, false, not, cond, _&&_, _||_, false≢true}
 use mathlib.Core.List.{List, [], _∷_}
 use mathlib.Core.Logic.{_⊎_, inl, inr, ⊎-elim}
 use mathlib.Core.Path.{_≡_, refl, sym, subst, subst⁻¹, _∙_}
@@ -21,10 +21,6 @@ module _ {P : Type 0} where
   pub holds : {b : Bool} → Decides P b → b ≡ true → P
   holds (holding h) e = h
   holds (failing h) e = absurd (false≢true e)
-
-  pub fails : {b : Bool} → Decides P b → b ≡ false → ¬ P
-  fails (holding h) e = absurd (true≢false e)
-  fails (failing h) e = h
 
   pub passes : {b : Bool} → Decides P b → P → b ≡ true
   passes (holding h) k = refl
