@@ -3,7 +3,7 @@
 use Prim.Native.Nat.{ℕ, zero, suc, _+_, _≤_, _<_}
 use native.Mathlib.Omega.{arith}
 use mathlib.Core.Bool.{Bool, true, false, cond, false≢true}
-use mathlib.Core.List.{List, [], _∷_, _++_}
+use mathlib.Core.List.{List, [], _∷_}
 use mathlib.Core.Logic.{_≢_, _⊎_, inl, inr, ⊎-elim}
 use mathlib.Core.Option.{Option, none, some}
 use mathlib.Core.Path.{_≡_, refl, sym, ap, subst, subst⁻¹, _∙_}
@@ -32,12 +32,7 @@ use Rattle.admission.proofs.Moves.{move-count, job-moves, movable-job}
 -- what the search over a list of jobs finds: no admitted move, or the first
 abbrev Searched : Plan → Table → List Job → Option Event → Type 0
 Searched p t js none = Each (Blocked p t) js
-Searched p t js (some e) =
-    (before : List Job) × (job : Job) × (later : List Job)
-    × (js ≡ before ++ job ∷ later)
-    × (e ≡ moveOf p job)
-    × (answer p t e ≡ Admitted)
-    × Each (Blocked p t) before
+Searched p t js (some e) = Earliest p t js e
 
 earliest-searched : (p : Plan) (t : Table) (js : List Job) → Searched p t js (earliest p t js)
 earliest-searched p t [] = tt
@@ -48,10 +43,19 @@ earliest-searched p t (j ∷ js) = step (admitted-or-not (answer p t (moveOf p j
 
     later : (o : Option Event) → Blocked p t j → Searched p t js o → Searched p t (j ∷ js) o
     later none b s = (b, s)
-    later (some e) b s = (j ∷ s .0, s .1, s .2, ap (λ (is : List Job). j ∷ is) (s .3), s .4, s .5, (b, s .6))
+    later (some e) b s =
+        record {
+          before = j ∷ s .before;
+          job = s .job;
+          later = s .later;
+          whole = ap (λ (is : List Job). j ∷ is) (s .whole);
+          move = s .move;
+          admitted = s .admitted;
+          earlier = (b, s .earlier);
+        }
 
     step : (answer p t (moveOf p j) ≡ Admitted) ⊎ (isAdmitted (answer p t (moveOf p j)) ≡ false) → Searched p t js (earliest p t js) → Searched p t (j ∷ js) (earliest p t (j ∷ js))
-    step (inl h) s = rw (ap isAdmitted h) ([], j, js, refl, refl, h, tt)
+    step (inl h) s = rw (ap isAdmitted h) (record { before = []; job = j; later = js; whole = refl; move = refl; admitted = h; earlier = tt })
     step (inr h) s = rw h (later (earliest p t js) (blocked h) s)
 
 abbrev EmptyOrNot : List Job → Type 0
@@ -136,9 +140,8 @@ module _ (p : Plan) (sound : Sound p) where
       choose : (o : Option Event) → jobsOf t ≢ [] → Searched p t (jobsOf t) o → ((e : Event) → AgreeingDrain (tableAfter p t e) budget (further e)) → AgreeingDrain t (suc budget) (moved t further o)
       choose none left s rest = record { chain = stay; agrees = agrees; ended = (sound, agrees, omega arith, left, s) }
       choose (some e) left s rest =
-          let found : Earliest p t e = record { before = s .0; job = s .1; later = s .2; whole = s .3; move = s .4; admitted = s .5; earlier = s .6 } in
           record {
-            chain = move e found (rest e .chain);
+            chain = move e s (rest e .chain);
             agrees = rest e .agrees;
             ended = longer t (tableAfter p t e) budget (further e) (further e .end) agrees (rest e .ended) (agrees-after p t e sound agrees);
           }

@@ -30,10 +30,10 @@ use Rattle.admission.specs.declared.Answer.the-variants.{Admitted, Unsou
 use Rattle.admission.proofs.Tables.{agreeing-table, decides-agrees}
 
 -- the type that a load names is one of the plan's
-abbrev TypeOf : Plan → Event → Type 0
-TypeOf p (Load n t) = InRange t (p .types)
-TypeOf p (Advance n) = Unit {0}
-TypeOf p (Unload n) = Unit {0}
+abbrev TypeInPlan : Plan → Event → Type 0
+TypeInPlan p (Load n t) = InRange t (p .types)
+TypeInPlan p (Advance n) = Unit {0}
+TypeInPlan p (Unload n) = Unit {0}
 
 -- a list of jobs that agrees with a sound plan
 module _ (p : Plan) (sound : Sound p) (js : List Job) (agreeing : Agreeing p js) where
@@ -67,7 +67,7 @@ module _ (p : Plan) (sound : Sound p) (js : List Job) (agreeing : Agreeing p js)
   leads-unload : (n : ℕ) (a : Active n js) → IsLast p (a .job) → LeadsTo p js (Unload n) (unloaded n js)
   leads-unload n a h = (a, h, names n a .unload)
 
-  placed-after : (e : Event) (next : List Job) → TypeOf p e → LeadsTo p js e next → Each (Placed p) next
+  placed-after : (e : Event) (next : List Job) → TypeInPlan p e → LeadsTo p js e next → Each (Placed p) next
   placed-after (Load n t) next type h =
       rw h (append-each (Placed p) js (loadedJob n t ∷ []) (agreeing .placed) ((type, omega (arith, sound .lengths t type)), tt))
   placed-after (Advance n) next type h =
@@ -79,7 +79,7 @@ module _ (p : Plan) (sound : Sound p) (js : List Job) (agreeing : Agreeing p js)
       rw (h .2) (each-removed (Placed p) (a .before) (a .job) (a .after) (parts n a (Placed p) (agreeing .placed)))
 
   -- the last two questions: what holds of the list computed holds of the list named
-  module _ (e : Event) (type : TypeOf p e) (leads : LeadsTo p js e (jobsAfter p js e)) where
+  module _ (e : Event) (type : TypeInPlan p e) (leads : LeadsTo p js e (jobsAfter p js e)) where
     afterwards : (P : List Job → Type 0) → P (jobsAfter p js e) → Afterwards p js e P
     afterwards P h next k = subst⁻¹ P (leads-after e k) h
 
@@ -121,7 +121,7 @@ module _ (p : Plan) (sound : Sound p) (js : List Job) (agreeing : Agreeing p js)
   own-leads (Advance n) h = leads-advance n (h .1 .0) (h .1 .1 .0 (h .1 .0))
   own-leads (Unload n) h = leads-unload n (h .1 .0) (h .1 .1 .0 (h .1 .0))
 
-  own-type : (e : Event) → AllHold (ownConditions p js e) → TypeOf p e
+  own-type : (e : Event) → AllHold (ownConditions p js e) → TypeInPlan p e
   own-type (Load n t) h = h .1 .1 .0
   own-type (Advance n) h = tt
   own-type (Unload n) h = tt

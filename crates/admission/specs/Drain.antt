@@ -47,20 +47,20 @@ pub record Movable (p : Plan) (t : Table) : Type 0 where
   pub whole : jobsOf t ≡ before ++ job ∷ later
   pub admitted : answer p t (moveOf p job) ≡ Admitted
 
--- the move is that of the earliest loaded job for which it is admitted
-pub record Earliest (p : Plan) (t : Table) (e : Event) : Type 0 where
+-- the move is that of the earliest of these jobs for which it is admitted
+pub record Earliest (p : Plan) (t : Table) (js : List Job) (e : Event) : Type 0 where
   pub before : List Job
   pub job : Job
   pub later : List Job
-  pub whole : jobsOf t ≡ before ++ job ∷ later
+  pub whole : js ≡ before ++ job ∷ later
   pub move : e ≡ moveOf p job
   pub admitted : answer p t e ≡ Admitted
   pub earlier : Each (Blocked p t) before
 
--- that many such moves lead from one table to another
+-- that many moves lead from one table to another, each of the earliest loaded job for which it is admitted
 pub data Moves (p : Plan) : Table → ℕ → Table → Type 0 where
   stay : {t : Table} → Moves p t 0 t
-  move : {t u : Table} {n : ℕ} (e : Event) → Earliest p t e → Moves p (tableAfter p t e) n u → Moves p t (suc n) u
+  move : {t u : Table} {n : ℕ} (e : Event) → Earliest p t (jobsOf t) e → Moves p (tableAfter p t e) n u → Moves p t (suc n) u
 
 -- the paper's number of each end
 abbrev pub endNumber : End → ℕ
@@ -95,7 +95,7 @@ pub record DrainRule (p : Plan) (t : Table) (budget : ℕ) (d : Drained) : Type 
   pub count : d .moves + stagesBefore p (jobsOf (d .table)) ≡ stagesBefore p (jobsOf t)
   pub empties : UpstreamRule p → Agrees p t → stagesBefore p (jobsOf t) ≤ budget → (d .end ≡ Emptied) × (d .table ≡ emptyTable)
 
--- the same, computed: the move of the earliest of these jobs for which it is admitted
+-- the same, computed: the earliest admitted move of these jobs
 abbrev pub earliest : Plan → Table → List Job → Option Event
 earliest p t [] = none
 earliest p t (j ∷ js) = let later = earliest p t js in cond (isAdmitted (answer p t (moveOf p j))) (some (moveOf p j)) later

@@ -35,8 +35,9 @@ HasNext p j = j .stage < lengthOf p (j .kind)
 abbrev pub IsLast : Plan → Job → Type 0
 IsLast p j = j .stage ≡ lengthOf p (j .kind)
 
--- what the model names: the jobs that an event leads to. A load comes last, at stage 1; an advance swaps the demands of two stages
--- in one act (Condition 3 of source document 003), so only the jobs afterwards are judged; an unload closes the gap
+-- what the model names: the jobs that an event leads to. A load comes last, at stage 1; an advance swaps the demands of
+-- two stages in one act (Condition 3 of source document 003), so only the jobs afterwards are judged; an unload closes the
+-- gap
 abbrev pub LeadsTo : Plan → List Job → Event → List Job → Type 0
 LeadsTo p js (Load n t) next = next ≡ js ++ loadedJob n t ∷ []
 LeadsTo p js (Advance n) next = (a : Active n js) × HasNext p (a .job) × (next ≡ a .before ++ advancedJob p (a .job) ∷ a .after)

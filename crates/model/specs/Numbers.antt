@@ -10,6 +10,7 @@ use lib.Dec.{leb, eqb}
 abbrev pub InRange : ℕ → ℕ → Type 0
 InRange i n = (1 ≤ i) × (i ≤ n)
 
+-- its test
 abbrev pub inRange : ℕ → ℕ → Bool
 inRange i n = leb 1 i && leb i n
 
@@ -52,6 +53,7 @@ abbrev pub Each : {A : Type 0} → (A → Type 0) → List A → Type 0
 Each P [] = Unit {0}
 Each P (x ∷ xs) = P x × Each P xs
 
+-- its test
 abbrev pub each : {A : Type 0} → (A → Bool) → List A → Bool
 each f [] = true
 each f (x ∷ xs) = f x && each f xs

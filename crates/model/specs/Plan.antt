@@ -46,6 +46,7 @@ lengthOf p t = at (p .lengths) t
 abbrev pub IsStage : Plan → ℕ → ℕ → Type 0
 IsStage p t k = InRange t (p .types) × InRange k (lengthOf p t)
 
+-- its test
 unfoldable pub isStage : Plan → ℕ → ℕ → Bool
 isStage p t k = inRange t (p .types) && inRange k (lengthOf p t)
 
@@ -66,6 +67,7 @@ demandOf p r t k = at (stageOf p t k .demand) r
 unfoldable pub weightOf : Plan → ℕ → ℕ → ℕ → ℕ
 weightOf p w t k = at (stageOf p t k .weight) w
 
+-- stage k of type t demands resource r
 abbrev pub Demands : Plan → ℕ → ℕ → ℕ → Type 0
 Demands p t k r = 1 ≤ demandOf p r t k
 
