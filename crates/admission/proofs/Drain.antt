@@ -55,7 +55,9 @@ earliest-searched p t (j ∷ js) = step (admitted-or-not (answer p t (moveOf p j
         }
 
     step : (answer p t (moveOf p j) ≡ Admitted) ⊎ (isAdmitted (answer p t (moveOf p j)) ≡ false) → Searched p t js (earliest p t js) → Searched p t (j ∷ js) (earliest p t (j ∷ js))
-    step (inl h) s = rw (ap isAdmitted h) (record { before = []; job = j; later = js; whole = refl; move = refl; admitted = h; earlier = tt })
+    step (inl h) s =
+        let here : Earliest p t (j ∷ js) (moveOf p j) = record { before = []; job = j; later = js; whole = refl; move = refl; admitted = h; earlier = tt } in
+        rw (ap isAdmitted h) here
     step (inr h) s = rw h (later (earliest p t js) (blocked h) s)
 
 abbrev EmptyOrNot : List Job → Type 0
