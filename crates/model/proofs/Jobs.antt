@@ -11,12 +11,12 @@ use lib.ListN.{length, length-append}
 use borrow.Author.Tests.{eq-eqb, ne-eqb}
 use Rattle.model.specs.Limits.{maxNumber}
 use Rattle.model.specs.Numbers.{Each, Distinct}
-use Rattle.model.specs.Plan.{isStage, capacityOf, boundOf, demandOf, weightOf, lengthOf}
-use Rattle.model.specs.Jobs.{overStages, overJobs, unitsHeld, rowSum, KeepsCapacities, KeepsRows, Exceeded, Broken, exceeded, broken, Active, isActive, jobOf, advancedJob, advanced, unloaded, numbers, Numbered, Placed, Agreeing, distinct, agreeing}
+use Rattle.model.specs.Plan.{capacityOf, boundOf, demandOf, weightOf, lengthOf}
+use Rattle.model.specs.Jobs.{overStages, overJobs, unitsHeld, rowSum, KeepsCapacities, KeepsRows, Exceeded, Broken, exceeded, broken, Active, isActive, jobOf, advancedJob, advanced, unloaded, numbers, Numbered, Placed, Agreeing, distinct, fits, agreeing}
 use Rattle.model.specs.declared.Plan.{Plan}
 use Rattle.model.specs.declared.Job.{Job}
 use Rattle.model.proofs.Decide.{Decides, holding, failing, decides-iff, _and_, decides-then, decides-or, decides-not, decides-le, decides-eq, decides-range, decides-each, decides-lowest, lowest-found}
-use Rattle.model.proofs.Lists.{append-each, each-at, each-removed}
+use Rattle.model.proofs.Lists.{append-each, each-at, each-removed, each-map, each-both}
 use Rattle.model.proofs.Sums.{over-stages-jobs}
 
 -- numbers that differ
@@ -123,13 +123,15 @@ decides-active n (j ∷ js) =
     decides-iff (⊎-elim (active-here js) (active-later j)) active-cases (decides-or (decides-eq (j .number) n) (decides-active n js))
 
 -- the tests on a list decide its conditions
-decides-distinct : (ns : List ℕ) → Decides (Distinct ns) (distinct ns)
+pub decides-distinct : (ns : List ℕ) → Decides (Distinct ns) (distinct ns)
 decides-distinct [] = holding tt
 decides-distinct (n ∷ ns) = decides-each (λ m. decides-not (decides-eq m n)) ns and decides-distinct ns
 
-decides-placed : (p : Plan) (j : Job) → Decides (Placed p j) (isStage p (j .kind) (j .stage))
-unfolding isStage
-decides-placed p j = decides-range (j .kind) (p .types) and decides-range (j .stage) (lengthOf p (j .kind))
+pub decides-fits : (p : Plan) (j : Job) → Decides (Numbered j × Placed p j) (fits (p .types) (p .lengths) j)
+unfolding fits
+decides-fits p j =
+    decides-iff (λ h. (h .0 .0, (h .0 .1, h .1))) (λ h. ((h .0, h .1 .0), h .1 .1))
+    (decides-range (j .number) maxNumber and decides-range (j .kind) (p .types) and decides-range (j .stage) (lengthOf p (j .kind)))
 
 -- capacities and rows, as one case: the sum over stages is tested by the sum over jobs
 module _ (p : Plan) (js : List Job) (placed : Each (Placed p) js) where
@@ -162,17 +164,26 @@ pub decides-agreeing : (p : Plan) (js : List Job) → Decides (Agreeing p js) (a
 unfolding agreeing
 decides-agreeing p js =
     decides-iff whole parts
-    (decides-then
-    (decides-then
-    (decides-each (λ j. decides-range (j .number) maxNumber) js and decides-distinct (numbers js) and decides-each (decides-placed p) js)
-    (λ h. decides-capacities p js (h .1)))
-    (λ h. decides-rows p js (h .0 .1)))
+    (decides-then (decides-then (decides-each (decides-fits p) js and decides-distinct (numbers js)) (λ h. decides-capacities p js (placed (h .0)))) (λ h. decides-rows p js (placed (h .0 .0))))
   where
+    Fitting : Type 0
+    Fitting = Each (λ (j : Job). Numbered j × Placed p j) js
+
+    placed : Fitting → Each (Placed p) js
+    placed h = each-map (λ (j : Job). Numbered j × Placed p j) (Placed p) (λ j k. k .1) js h
+
     Parts : Type 0
-    Parts = (((Each Numbered js × Distinct (numbers js)) × Each (Placed p) js) × KeepsCapacities p js) × KeepsRows p js
+    Parts = ((Fitting × Distinct (numbers js)) × KeepsCapacities p js) × KeepsRows p js
 
     whole : Parts → Agreeing p js
-    whole h = record { numbered = h .0 .0 .0 .0; distinct = h .0 .0 .0 .1; placed = h .0 .0 .1; capacities = h .0 .1; rows = h .1 }
+    whole h =
+        record {
+          numbered = each-map (λ (j : Job). Numbered j × Placed p j) Numbered (λ j k. k .0) js (h .0 .0 .0);
+          distinct = h .0 .0 .1;
+          placed = placed (h .0 .0 .0);
+          capacities = h .0 .1;
+          rows = h .1;
+        }
 
     parts : Agreeing p js → Parts
-    parts h = ((((h .numbered, h .distinct), h .placed), h .capacities), h .rows)
+    parts h = (((each-both Numbered (Placed p) js (h .numbered) (h .placed), h .distinct), h .capacities), h .rows)

@@ -1,12 +1,12 @@
 -- What holds of each entry of a list, when the list is put together, loses an entry, or has another in its place; a least
 -- entry; copies.
-use Prim.Native.Nat.{ℕ, zero, suc, _≤_}
+use Prim.Native.Nat.{ℕ, zero, suc, _≤_, _<_}
 use native.Mathlib.Nat.{le-refl}
 use native.Mathlib.Omega.{arith}
 use mathlib.Core.Logic.{_⊎_, inl, inr}
 use mathlib.Core.Path.{_≡_, refl, ap}
 use mathlib.Core.List.{List, [], _∷_, _++_}
-use lib.ListN.{getD, replicate}
+use lib.ListN.{length, getD, replicate}
 use Rattle.model.specs.Numbers.{Each}
 use Rattle.model.proofs.Decide.{decides-le, decided}
 
@@ -74,3 +74,9 @@ pub replicated : {A : Type 0} (n i : ℕ) (d : A) → getD (replicate n d) i d �
 replicated zero i d = refl
 replicated (suc n) zero d = refl
 replicated (suc n) (suc i) d = replicated n i d
+
+-- an entry that a list has is the same whatever would stand for one that it lacks
+pub entry-there : {A : Type 0} (xs : List A) (i : ℕ) (d e : A) → i < length xs → getD xs i d ≡ getD xs i e
+entry-there [] i d e h = absurd (omega arith)
+entry-there (x ∷ xs) zero d e h = refl
+entry-there (x ∷ xs) (suc i) d e h = entry-there xs i d e (omega arith)

@@ -6,8 +6,8 @@ use mathlib.Core.List.{List, [], _∷_, _++_, map}
 use mathlib.Core.Path.{_≡_}
 use lib.Dec.{leb, eqb}
 use Rattle.model.specs.Limits.{maxNumber}
-use Rattle.model.specs.Numbers.{InRange, inRange, sumTo, lowest, Lowest, Each, each, Distinct}
-use Rattle.model.specs.Plan.{lengthOf, IsStage, isStage, demandOf, weightOf, capacityOf, boundOf, stageAfter}
+use Rattle.model.specs.Numbers.{InRange, inRange, at, sumTo, lowest, Lowest, Each, each, Distinct}
+use Rattle.model.specs.Plan.{lengthOf, IsStage, demandOf, weightOf, capacityOf, boundOf, stageAfter}
 use Rattle.model.specs.declared.Plan.{Plan}
 use Rattle.model.specs.declared.Job.{Job}
 
@@ -122,10 +122,10 @@ abbrev pub distinct : List ℕ → Bool
 distinct [] = true
 distinct (n ∷ ns) = each (λ (m : ℕ). not (eqb m n)) ns && distinct ns
 
+-- a job's number is in range and its type and stage are of a plan with so many types, and so many stages of each
+unfoldable pub fits : ℕ → List ℕ → Job → Bool
+fits types lengths j = inRange (j .number) maxNumber && inRange (j .kind) types && inRange (j .stage) (at lengths (j .kind))
+
 unfoldable pub agreeing : Plan → List Job → Bool
 agreeing p js =
-    each (λ (j : Job). inRange (j .number) maxNumber) js
-    && distinct (numbers js)
-    && each (λ (j : Job). isStage p (j .kind) (j .stage)) js
-    && eqb (exceeded p js) 0
-    && eqb (broken p js) 0
+    each (fits (p .types) (p .lengths)) js && distinct (numbers js) && eqb (exceeded p js) 0 && eqb (broken p js) 0

@@ -8,7 +8,7 @@ use mathlib.Core.Logic.{_⊎_}
 use lib.ListN.{drop}
 use lib.Dec.{leb, eqb}
 use Rattle.model.specs.Limits.{maxResources, maxTypes, maxRows, maxStages, maxAllStages, maxUnits, maxBound}
-use Rattle.model.specs.Numbers.{InRange, inRange, entry, at, allTo, someTo, each}
+use Rattle.model.specs.Numbers.{InRange, inRange, entry, at, sumTo, allTo, someTo, each}
 use Rattle.model.specs.Plan.{noStage, capacityOf, rankOf, boundOf, lengthOf, IsStage, allStages, stageOf, demandOf, weightOf, Demands}
 use Rattle.model.specs.declared.Stage.{Stage}
 use Rattle.model.specs.declared.Plan.{Plan}
@@ -56,37 +56,39 @@ zeroBeyond n xs = each (λ (x : ℕ). eqb x 0) (drop n xs)
 abbrev pub emptyStage : Stage → Bool
 emptyStage s = zeroBeyond 0 (s .demand) && zeroBeyond 0 (s .weight)
 
-unfoldable pub soundStage : Plan → ℕ → ℕ → Bool
-soundStage p t k =
-    allTo (p .resources) (λ (r : ℕ). leb (demandOf p r t k) (capacityOf p r))
-    && someTo (p .resources) (λ (r : ℕ). leb 1 (demandOf p r t k))
-    && allTo (p .rows) (λ (w : ℕ). leb (weightOf p w t k) maxUnits)
-    && zeroBeyond (p .resources) (stageOf p t k .demand)
-    && zeroBeyond (p .rows) (stageOf p t k .weight)
+-- of the counts, and of what is kept per resource, per type and per row: in range within the count, zeros beyond it
+unfoldable pub soundCounts : ℕ → ℕ → ℕ → Bool
+soundCounts resources types rows = inRange resources maxResources && inRange types maxTypes && leb rows maxRows
 
-unfoldable pub soundCounts : Plan → Bool
-soundCounts p = inRange (p .resources) maxResources && inRange (p .types) maxTypes && leb (p .rows) maxRows
+unfoldable pub soundCapacities : ℕ → List ℕ → Bool
+soundCapacities n capacity = allTo n (λ (r : ℕ). inRange (at capacity r) maxUnits) && zeroBeyond n capacity
 
-unfoldable pub soundRanks : Plan → Bool
-soundRanks p =
-    allTo (p .resources) (λ (r : ℕ). inRange (rankOf p r) maxUnits)
-    || allTo (p .resources) (λ (r : ℕ). eqb (rankOf p r) 0)
+unfoldable pub soundRanks : ℕ → List ℕ → Bool
+soundRanks n rank =
+    (allTo n (λ (r : ℕ). inRange (at rank r) maxUnits) || allTo n (λ (r : ℕ). eqb (at rank r) 0)) && zeroBeyond n rank
 
-unfoldable pub soundBeyond : Plan → Bool
-soundBeyond p =
-    zeroBeyond (p .resources) (p .capacity)
-    && zeroBeyond (p .resources) (p .rank)
-    && zeroBeyond (p .rows) (p .bound)
-    && zeroBeyond (p .types) (p .lengths)
-    && each emptyStage (drop (allStages p) (p .stages))
+unfoldable pub soundLengths : ℕ → List ℕ → Bool
+soundLengths n lengths =
+    allTo n (λ (t : ℕ). inRange (at lengths t) maxStages) && leb (sumTo n (at lengths)) maxAllStages && zeroBeyond n lengths
+
+unfoldable pub soundBounds : ℕ → List ℕ → Bool
+soundBounds n bound = allTo n (λ (w : ℕ). leb (at bound w) maxBound) && zeroBeyond n bound
+
+-- of a stage, in a plan with so many resources and rows and these capacities
+unfoldable pub soundStage : ℕ → ℕ → List ℕ → Stage → Bool
+soundStage resources rows capacity s =
+    allTo resources (λ (r : ℕ). leb (at (s .demand) r) (at capacity r))
+    && someTo resources (λ (r : ℕ). leb 1 (at (s .demand) r))
+    && allTo rows (λ (w : ℕ). leb (at (s .weight) w) maxUnits)
+    && zeroBeyond resources (s .demand)
+    && zeroBeyond rows (s .weight)
 
 unfoldable pub sound : Plan → Bool
 sound p =
-    soundCounts p
-    && allTo (p .resources) (λ (r : ℕ). inRange (capacityOf p r) maxUnits)
-    && soundRanks p
-    && allTo (p .rows) (λ (w : ℕ). leb (boundOf p w) maxBound)
-    && allTo (p .types) (λ (t : ℕ). inRange (lengthOf p t) maxStages)
-    && leb (allStages p) maxAllStages
-    && allTo (p .types) (λ (t : ℕ). allTo (lengthOf p t) (λ (k : ℕ). soundStage p t k))
-    && soundBeyond p
+    soundCounts (p .resources) (p .types) (p .rows)
+    && soundCapacities (p .resources) (p .capacity)
+    && soundRanks (p .resources) (p .rank)
+    && soundLengths (p .types) (p .lengths)
+    && soundBounds (p .rows) (p .bound)
+    && allTo (p .types) (λ (t : ℕ). allTo (lengthOf p t) (λ (k : ℕ). soundStage (p .resources) (p .rows) (p .capacity) (stageOf p t k)))
+    && each emptyStage (drop (allStages p) (p .stages))

@@ -1,0 +1,14 @@
+-- The flag of a chain of tests, where the way that asked the next test meets the way that did not.
+use mathlib.Core.Bool.{Bool, true, false, _&&_, _||_}
+use mathlib.Core.Logic.{_⊎_, inl, inr}
+use mathlib.Core.Path.{_≡_, _∙_}
+
+-- `asked` is the flag before the test b, and it is a
+module _ {P Q : Type 0} {asked a b flag : Bool} (e : asked ≡ a) where
+  pub and-met : (P → (asked ≡ true) × (flag ≡ b)) → (Q → (asked ≡ false) × (flag ≡ asked)) → P ⊎ Q → flag ≡ (a && b)
+  and-met passed failed (inl h) = rw (← e, passed h .0) (passed h .1)
+  and-met passed failed (inr h) = rw (← e, failed h .0) (failed h .1 ∙ failed h .0)
+
+  pub or-met : (P → (asked ≡ true) × (flag ≡ asked)) → (Q → (asked ≡ false) × (flag ≡ b)) → P ⊎ Q → flag ≡ (a || b)
+  or-met passed failed (inl h) = rw (← e, passed h .0) (passed h .1 ∙ passed h .0)
+  or-met passed failed (inr h) = rw (← e, failed h .0) (failed h .1)
