@@ -1,0 +1,59 @@
+-- None of the first i is at least 1.
+use Prim.Native.Nat.{_-_, _≤_}
+use native.Mathlib.Omega.{arith}
+use mathlib.Core.Bool.{false}
+use mathlib.Core.Path.{_≡_, refl, sym}
+use borrow.Author.Needs.{needs}
+use borrow.Author.Tests.{le-leb, lt-leb}
+use lib.Dec.{leb}
+use Rattle.model.specs.Numbers.{at, someTo}
+use Rattle.model.proofs.Search.{some-more, some-holds}
+use Rattle.plans.proofs.sound.some_positive.Statement.{statement}
+use Rattle.plans.proofs.sound.some_positive.Tie as tie
+
+abbrev Inv-loop : tie.InvT-loop
+Inv-loop xs n i₀ i = (i ≤ n) × (someTo i (λ j. leb 1 (at xs j)) ≡ false)
+
+abbrev μ-loop : tie.MeasureT-loop
+μ-loop xs n i₀ i = n - i
+
+loop-holds : tie.Need-loop-holds Inv-loop μ-loop
+loop-holds c = (search needs, refl)
+
+element-copy-out-if1 : tie.Need-element-copy-out-if1 Inv-loop μ-loop
+element-copy-out-if1 c = search needs
+
+returns : tie.Need-returns Inv-loop μ-loop
+returns c =
+    let h = c .before .before .before in
+    sym (some-holds _ (h .before .args .n) (h .loop .i) (search needs) (le-leb 1 _ (c .if1 .taken)))
+
+add-i : tie.Need-add-i Inv-loop μ-loop
+add-i c = search needs
+
+loop-less : tie.Need-loop-less Inv-loop μ-loop
+loop-less c = search needs
+
+loop-again : tie.Need-loop-again Inv-loop μ-loop
+loop-again c =
+    let h = c .before .before .before .loop in
+    (search needs, some-more _ (h .i) (h .inv .1) (lt-leb 1 _ (c .if1 .left)))
+
+returns-2 : tie.Need-returns-2 Inv-loop μ-loop
+returns-2 c =
+    let e : c .before .before .args .n ≡ c .before .loop .i = omega arith in
+    rw e (sym (c .before .loop .inv .1))
+
+pub some-positive-spec : {M : Type 1} → statement M
+some-positive-spec =
+    tie.close
+    (tie.spec
+    Inv-loop
+    μ-loop
+    loop-holds
+    element-copy-out-if1
+    returns
+    add-i
+    loop-less
+    loop-again
+    returns-2)
