@@ -1,7 +1,16 @@
 -- The laws of the table, the events, the drain and the ledger, and the emptying theorem. Read in this order.
+pub mod Arrays
+pub mod Gap
+pub mod Limits
+pub mod Totals
+pub mod Places
 pub mod Tables
+pub mod After
+pub mod Openings
 pub mod Events
+pub mod Asking
+pub mod Named
+pub mod Trying
+pub mod Turns
 pub mod Moves
 pub mod Drain
-pub mod Ledger
-pub mod Emptying

@@ -1,19 +1,23 @@
 -- A table that agrees with a plan is the table of its jobs, so what is proved of lists of jobs holds of tables.
 use Prim.Native.Nat.{ℕ, zero, suc, _+_, _-_, _≤_, _<_}
 use native.Mathlib.Omega.{arith}
+use mathlib.Core.Bool.{true, _&&_, and-assoc}
 use mathlib.Core.List.{List, [], _∷_, _++_}
 use mathlib.Core.Path.{_≡_, refl, sym, ap, _∙_}
 use lib.ListN.{length, drop, replicate, getD, length-append, length-drop, length-replicate, take-append-drop}
 use lib.Seq.{take-append-seam, length-take-le, ext-getD, getD-drop}
 use Rattle.model.specs.Limits.{maxJobs}
-use Rattle.model.specs.Numbers.{entry}
-use Rattle.model.specs.Jobs.{noJob, Agreeing}
+use lib.Dec.{eqb}
+use borrow.Author.Tests.{eq-eqb}
+use Rattle.model.specs.Numbers.{entry, Each, Distinct}
+use Rattle.model.specs.Jobs.{noJob, exceeded, broken, numbers, Numbered, Placed, Agreeing, agreeing}
 use Rattle.model.specs.declared.Plan.{Plan}
 use Rattle.model.specs.declared.Job.{Job}
-use Rattle.model.proofs.Decide.{Decides, decides-iff, _and_, decides-le, decides-eq, decides-beyond}
-use Rattle.model.proofs.Lists.{replicated}
-use Rattle.model.proofs.Jobs.{decides-agreeing}
+use Rattle.model.proofs.Decide.{Decides, holds, decides-iff, _and_, decides-le, decides-eq, decides-each, decides-beyond}
+use Rattle.model.proofs.Lists.{replicated, each-map}
+use Rattle.model.proofs.Jobs.{decides-distinct, decides-fits, decides-agreeing}
 use Rattle.admission.specs.Table.{jobsOf, tableOf, Agrees, isNoJob, agrees}
+use Rattle.admission.specs.Parts.{wellFormed}
 use Rattle.admission.specs.declared.Table.{Table}
 
 pub jobs-of-table : (js : List Job) → jobsOf (tableOf js) ≡ js
@@ -74,3 +78,22 @@ decides-agrees p t =
     and decides-le (t .count) maxJobs
     and decides-beyond decides-no-job noJob refl (t .count) (t .jobs)
     and decides-agreeing p (jobsOf t))
+
+-- agreement in the parts that the code asks it in
+module _ (p : Plan) (t : Table) where
+  decides-formed : Decides (((t .count ≤ maxJobs) × ((i : ℕ) → t .count < i → entry (t .jobs) i noJob ≡ noJob)) × (Each (λ (j : Job). Numbered j × Placed p j) (jobsOf t) × Distinct (numbers (jobsOf t)))) (wellFormed (p .types) (p .lengths) t)
+  unfolding wellFormed
+  decides-formed =
+      decides-le (t .count) maxJobs
+      and decides-beyond decides-no-job noJob refl (t .count) (t .jobs)
+      and (decides-each (decides-fits p) (jobsOf t) and decides-distinct (numbers (jobsOf t)))
+
+  pub formed-few : wellFormed (p .types) (p .lengths) t ≡ true → t .count ≤ maxJobs
+  formed-few h = holds decides-formed h .0 .0
+
+  pub formed-placed : wellFormed (p .types) (p .lengths) t ≡ true → Each (Placed p) (jobsOf t)
+  formed-placed h = each-map (λ (j : Job). Numbered j × Placed p j) (Placed p) (λ j k. k .1) (jobsOf t) (holds decides-formed h .1 .0)
+
+  pub agrees-by-parts : length (t .jobs) ≡ maxJobs → agrees p t ≡ (wellFormed (p .types) (p .lengths) t && (eqb (exceeded p (jobsOf t)) 0 && eqb (broken p (jobsOf t)) 0))
+  unfolding agrees agreeing wellFormed
+  agrees-by-parts whole = rw (eq-eqb (length (t .jobs)) maxJobs whole) (simp and-assoc)

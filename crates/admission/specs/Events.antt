@@ -121,8 +121,15 @@ jobsAfter p js (Load n t) = loaded n t js
 jobsAfter p js (Advance n) = advanced p n js
 jobsAfter p js (Unload n) = unloaded n js
 
+abbrev pub limitQuestions : ℕ → ℕ → List (Question Answer)
+limitQuestions resource row = ask (eqb resource 0) (OverCapacity resource) ∷ ask (eqb row 0) (RowBroken row) ∷ []
+
 abbrev pub keptQuestions : Plan → List Job → List (Question Answer)
-keptQuestions p next = ask (eqb (exceeded p next) 0) (OverCapacity (exceeded p next)) ∷ ask (eqb (broken p next) 0) (RowBroken (broken p next)) ∷ []
+keptQuestions p next = limitQuestions (exceeded p next) (broken p next)
+
+-- the answer to the last two questions, from the lowest resource exceeded and the lowest row broken; 0 for none
+unfoldable pub keptAnswer : ℕ → ℕ → Answer
+keptAnswer resource row = answerOf Admitted (limitQuestions resource row)
 
 abbrev pub hasNext : Plan → Job → Bool
 hasNext p j = ltb (j .stage) (lengthOf p (j .kind))
@@ -130,26 +137,34 @@ hasNext p j = ltb (j .stage) (lengthOf p (j .kind))
 abbrev pub isLast : Plan → Job → Bool
 isLast p j = eqb (j .stage) (lengthOf p (j .kind))
 
-abbrev pub ownQuestions : Plan → List Job → Event → List (Question Answer)
-ownQuestions p js (Load n t) =
+-- 13 and 14 of a move, and 13 to 16 of a load into a plan with so many types
+abbrev pub nameQuestions : List Job → ℕ → List (Question Answer)
+nameQuestions js n = ask (inRange n maxNumber) BadNumber ∷ ask (isActive n js) WrongActivity ∷ []
+
+abbrev pub loadQuestions : ℕ → List Job → ℕ → ℕ → List (Question Answer)
+loadQuestions types js n t =
     ask (inRange n maxNumber) BadNumber
     ∷ ask (not (isActive n js)) WrongActivity
-    ∷ ask (inRange t (p .types)) UnknownType
+    ∷ ask (inRange t types) UnknownType
     ∷ ask (ltb (length js) maxJobs) Full
-    ∷ keptQuestions p (jobsAfter p js (Load n t))
+    ∷ []
+
+abbrev pub ownQuestions : Plan → List Job → Event → List (Question Answer)
+ownQuestions p js (Load n t) = loadQuestions (p .types) js n t ++ keptQuestions p (jobsAfter p js (Load n t))
 ownQuestions p js (Advance n) =
-    ask (inRange n maxNumber) BadNumber
-    ∷ ask (isActive n js) WrongActivity
-    ∷ ask (hasNext p (jobOf n js)) WrongStage
-    ∷ keptQuestions p (jobsAfter p js (Advance n))
+    nameQuestions js n ++ ask (hasNext p (jobOf n js)) WrongStage ∷ keptQuestions p (jobsAfter p js (Advance n))
 ownQuestions p js (Unload n) =
-    ask (inRange n maxNumber) BadNumber
-    ∷ ask (isActive n js) WrongActivity
-    ∷ ask (isLast p (jobOf n js)) WrongStage
-    ∷ keptQuestions p (jobsAfter p js (Unload n))
+    nameQuestions js n ++ ask (isLast p (jobOf n js)) WrongStage ∷ keptQuestions p (jobsAfter p js (Unload n))
+
+-- is the plan sound, and does the table agree with it: asked before all else
+abbrev pub firstQuestions : Plan → Table → List (Question Answer)
+firstQuestions p t = ask (sound p) UnsoundPlan ∷ ask (agrees p t) Disagreement ∷ []
+
+unfoldable pub agreement : Plan → Table → Answer
+agreement p t = answerOf Admitted (firstQuestions p t)
 
 abbrev pub eventQuestions : Plan → Table → Event → List (Question Answer)
-eventQuestions p t e = ask (sound p) UnsoundPlan ∷ ask (agrees p t) Disagreement ∷ ownQuestions p (jobsOf t) e
+eventQuestions p t e = firstQuestions p t ++ ownQuestions p (jobsOf t) e
 
 unfoldable pub answer : Plan → Table → Event → Answer
 answer p t e = answerOf Admitted (eventQuestions p t e)

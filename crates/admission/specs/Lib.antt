@@ -4,6 +4,4 @@
 pub mod Table
 pub mod Events
 pub mod Drain
-pub mod Ledger
-pub mod Run
-pub mod Emptying
+pub mod Parts

@@ -11,14 +11,13 @@ use Rattle.model.specs.Jobs.{unitsHeld}
 use Rattle.model.specs.Upstream.{check}
 use Rattle.model.specs.declared.Plan.{Plan}
 use Rattle.model.specs.declared.Check.the-variants.{Meets}
 use Rattle.admission.specs.Table.{tableOf, emptyTable}
 use Rattle.admission.specs.Events.{IsMove, answer}
 use Rattle.admission.specs.Drain.{stagesBefore}
-use Rattle.admission.specs.Ledger.{emptyLedger}
-use Rattle.admission.specs.Run.{State, run, answers, admittedCount}
+use Rattle.runs.specs.Run.{State, run, from, answers, admittedCount}
 use Rattle.admission.specs.declared.Event.{Event}
 use Rattle.admission.specs.declared.Table.{Table}
 use Rattle.admission.specs.declared.Answer.the-variants.{Admitted}
 
 -- some advance or unload is admitted
 pub record SomeMove (p : Plan) (t : Table) : Type 0 where
@@ -28,7 +27,7 @@ pub record SomeMove (p : Plan) (t : Table) : Type 0 where
 
 -- the empty table and the empty ledger
 abbrev pub start : State
-start = record { table = emptyTable; ledger = emptyLedger }
+start = from emptyTable
 
 -- of the state between the lists and the state at the end, with the number of moves made on the way
 pub record EmptyingRule (p : Plan) (between end : State) (made : ℕ) : Type 0 where

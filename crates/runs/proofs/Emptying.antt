@@ -18,19 +18,19 @@ use Rattle.model.proofs.Decide.{AllHold}
 use Rattle.model.proofs.Sums.{over-stages-jobs}
 use Rattle.model.proofs.Jobs.{none-active}
 use Rattle.model.proofs.Upstream.{check-exact}
 use Rattle.admission.specs.Table.{jobsOf, tableOf, emptyTable, Agrees}
 use Rattle.admission.specs.Events.{IsMove, ownConditions, answer, isAdmitted, tableAfter}
 use Rattle.admission.specs.Drain.{stagesBefore, moveOf, isEmpty}
-use Rattle.admission.specs.Run.{State, run, tableAfterAll, answers, admittedCount}
-use Rattle.admission.specs.Emptying.{SomeMove, start, EmptyingTheorem}
+use Rattle.runs.specs.Run.{State, run, tableAfterAll, answers, admittedCount}
+use Rattle.runs.specs.Emptying.{SomeMove, start, EmptyingTheorem}
 use Rattle.admission.specs.declared.Table.{Table}
 use Rattle.admission.specs.declared.Event.{Event}
 use Rattle.admission.specs.declared.Event.the-variants.{Load, Advance, Unload}
 use Rattle.admission.specs.declared.Answer.the-variants.{Admitted}
 use Rattle.admission.proofs.Tables.{agreeing-table}
 use Rattle.admission.proofs.Events.{admitted-or-not, admitted-holds, table-refused}
 use Rattle.admission.proofs.Moves.{move-count, job-moves, movable-job}
-use Rattle.admission.proofs.Ledger.{Consistent, jobs-of-ledger, stateAfter, stays-consistent}
+use Rattle.runs.proofs.Ledger.{Consistent, jobs-of-ledger, stateAfter, stays-consistent}
 
 -- no job agrees with any plan
 none-agreeing : (p : Plan) → Agreeing p []

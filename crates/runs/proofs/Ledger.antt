@@ -14,15 +14,15 @@ use Rattle.model.specs.declared.Job.{Job}
 use Rattle.model.proofs.Decide.{AllHold, passes}
 use Rattle.model.proofs.Sums.{over-stages-added, over-stages-removed, over-stages-moved}
 use Rattle.model.proofs.Jobs.{decides-active, Found}
 use Rattle.admission.specs.Table.{jobsOf, tableOf, Agrees}
 use Rattle.admission.specs.Events.{HasNext, jobsAfter, ownConditions, answer, isAdmitted, tableAfter}
-use Rattle.admission.specs.Ledger.{Ledger, demandAt, takes, gives, written, entered}
-use Rattle.admission.specs.Run.{State}
+use Rattle.runs.specs.Ledger.{Ledger, demandAt, takes, gives, written, entered}
+use Rattle.runs.specs.Run.{State}
 use Rattle.admission.specs.declared.Event.{Event}
 use Rattle.admission.specs.declared.Event.the-variants.{Load, Advance, Unload}
 use Rattle.admission.specs.declared.Answer.the-variants.{Admitted}
 use Rattle.admission.proofs.Tables.{jobs-of-table}
 use Rattle.admission.proofs.Events.{names, placed-job, admitted-or-not, admitted-holds, table-admitted, table-refused, agrees-after}
 
 -- units taken are units given back plus what the present stages demand
 abbrev pub Balanced : Plan → Ledger → Type 0

@@ -1,0 +1,121 @@
+-- The drain's loop: what is left to do from the table at hand, with the moves made so far added, is what was to do at the
+-- start.
+use Prim.Native.Nat.{ℕ, zero, suc, _+_, _-_, _≤_, _<_}
+use native.Mathlib.Omega.{arith}
+use mathlib.Core.Bool.{Bool, true, false, cond, false≢true}
+use mathlib.Core.List.{List, [], _∷_}
+use mathlib.Core.Path.{_≡_, refl, sym, ap, _∙_}
+use lib.ListN.{length, getD}
+use lib.Seq.{getD-take}
+use Rattle.model.specs.Jobs.{noJob}
+use Rattle.model.specs.Soundness.{Sound, sound}
+use Rattle.model.specs.declared.Plan.{Plan}
+use Rattle.model.specs.declared.Job.{Job}
+use Rattle.admission.specs.Table.{jobsOf, tableOf, Agrees, agrees}
+use Rattle.admission.specs.Events.{isAdmitted, agreement, answer, jobsAfter, tableAfter}
+use Rattle.admission.specs.Drain.{moveOf, isEmpty, stopped, oneMore, drainFrom, drain}
+use Rattle.admission.specs.Parts.{earliestPlace}
+use Rattle.admission.specs.declared.Table.{Table}
+use Rattle.admission.specs.declared.Event.{Event}
+use Rattle.admission.specs.declared.Answer.the-variants.{Admitted}
+use Rattle.admission.specs.declared.Answer.the-variants as answers
+use Rattle.admission.specs.declared.End.the-variants.{Emptied, UnsoundPlan, Disagreement, OutOfBudget, NoMove}
+use Rattle.admission.specs.declared.Drained.{Drained}
+use Rattle.admission.proofs.Places.{count-jobs}
+use Rattle.admission.proofs.Events.{table-admitted, agrees-after}
+use Rattle.admission.proofs.Asking.{is-admitted}
+use Rattle.admission.proofs.Trying.{earliest-none, earliest-some, movable-there}
+
+-- a drain with so many moves made before it
+abbrev pub after : ℕ → Drained → Drained
+after m d = record { end = d .end; moves = m + d .moves; table = d .table }
+
+same-moves : (d : Drained) (m : ℕ) → d .moves ≡ m → d ≡ record { end = d .end; moves = m; table = d .table }
+same-moves d m e = λ i. record { end = d .end; moves = e i; table = d .table }
+
+pub after-none : (d : Drained) → d ≡ after 0 d
+after-none d = same-moves d (0 + d .moves) (omega arith)
+
+pub after-stopped : (m : ℕ) (d : Drained) → d .moves ≡ 0 → after m d ≡ record { end = d .end; moves = m; table = d .table }
+after-stopped m d e = same-moves (after m d) m (omega (arith, e))
+
+pub after-more : (m : ℕ) (d : Drained) → after m (oneMore d) ≡ after (m + 1) d
+after-more m d = same-moves (after m (oneMore d)) (m + 1 + d .moves) (omega arith)
+
+empty-list : (js : List Job) → length js ≡ 0 → isEmpty js ≡ true
+empty-list [] h = refl
+empty-list (j ∷ js) h = absurd (omega arith)
+
+some-list : (js : List Job) → 0 < length js → isEmpty js ≡ false
+some-list [] h = absurd (omega arith)
+some-list (j ∷ js) h = refl
+
+module _ (p : Plan) (t : Table) (plan : Sound p) (agreeing : Agrees p t) where
+  counted : length (jobsOf t) ≡ t .count
+  counted = count-jobs t (agreeing .places) (agreeing .few) 0 _ refl
+
+  pub drain-empty : (budget : ℕ) → t .count ≤ 0 → drainFrom p budget t ≡ stopped Emptied t
+  unfolding drainFrom
+  drain-empty zero h = rw (empty-list (jobsOf t) (omega (arith, counted))) refl
+  drain-empty (suc budget) h = rw (empty-list (jobsOf t) (omega (arith, counted))) refl
+
+  module _ (left : 0 < t .count) where
+    pub drain-spent : (budget : ℕ) → budget ≤ 0 → drainFrom p budget t ≡ stopped OutOfBudget t
+    unfolding drainFrom
+    drain-spent zero h = rw (some-list (jobsOf t) (omega (arith, counted))) refl
+    drain-spent (suc budget) h = absurd (omega arith)
+
+    pub drain-stuck : (budget : ℕ) → 0 < budget → t .count ≤ earliestPlace p t → drainFrom p budget t ≡ stopped NoMove t
+    unfolding drainFrom
+    drain-stuck zero h stuck = absurd (omega arith)
+    drain-stuck (suc budget) h stuck =
+        rw (some-list (jobsOf t) (omega (arith, counted)), earliest-none p t (jobsOf t) (omega (arith, counted))) refl
+
+    -- the job that moves
+    module _ (place : ℕ) (found : place ≡ earliestPlace p t) (low : place < t .count) where
+      abbrev move : Event
+      move = moveOf p (getD (t .jobs) place noJob)
+
+      moving : moveOf p (getD (jobsOf t) (earliestPlace p t) noJob) ≡ move
+      moving =
+          ap (moveOf p) (ap (λ i. getD (jobsOf t) i noJob) (sym found) ∙ getD-take (t .count) (t .jobs) place noJob low)
+
+      pub move-admitted : isAdmitted (answer p t move) ≡ true
+      move-admitted =
+          ap (λ (e : Event). isAdmitted (answer p t e)) (sym moving) ∙ movable-there p t (jobsOf t) (omega (arith, found, counted))
+
+      pub drain-goes : (budget : ℕ) → 0 < budget → drainFrom p budget t ≡ oneMore (drainFrom p (budget - 1) (tableAfter p t move))
+      unfolding drainFrom
+      drain-goes zero h = absurd (omega arith)
+      drain-goes (suc budget) h =
+          let less : suc budget - 1 ≡ budget = omega arith in
+          rw (some-list (jobsOf t) (omega (arith, counted)), earliest-some p t (jobsOf t) (omega (arith, found, counted)), moving, less) refl
+
+      pub next-table : tableOf (jobsAfter p (jobsOf t) move) ≡ tableAfter p t move
+      next-table = sym (table-admitted p t move (is-admitted _ move-admitted))
+
+      pub next-agrees : Agrees p (tableAfter p t move)
+      next-agrees = agrees-after p t move plan agreeing
+
+-- a drain by the answers to its first two questions
+module _ (p : Plan) (t : Table) (budget : ℕ) where
+  begun : (a b : Bool) → isAdmitted (cond a (cond b Admitted answers.Disagreement) answers.UnsoundPlan) ≡ true → cond a (cond b (drainFrom p budget t) (stopped Disagreement t)) (stopped UnsoundPlan t) ≡ drainFrom p budget t
+  begun true true e = refl
+  begun true false e = absurd (false≢true e)
+  begun false b e = absurd (false≢true e)
+
+  pub drain-begins : isAdmitted (agreement p t) ≡ true → drain p t budget ≡ drainFrom p budget t
+  unfolding drain agreement
+  drain-begins h = begun (sound p) (agrees p t) h
+
+  pub drain-unsound : sound p ≡ false → drain p t budget ≡ stopped UnsoundPlan t
+  unfolding drain
+  drain-unsound h = rw h refl
+
+  refused : (b : Bool) → isAdmitted (cond b Admitted answers.Disagreement) ≡ false → b ≡ false
+  refused true e = e
+  refused false e = refl
+
+  pub drain-disagreeing : sound p ≡ true → isAdmitted (agreement p t) ≡ false → drain p t budget ≡ stopped Disagreement t
+  unfolding drain agreement
+  drain-disagreeing h k = rw (h, refused (agrees p t) (rw h at k)) refl

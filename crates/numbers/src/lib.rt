@@ -1,0 +1,98 @@
+// The published number and places of each answer, for whoever prints them.
+ghost use mathlib.Core.Path.{_≡_};
+ghost use Rattle.model.specs.Upstream.{checkNumbers};
+ghost use Rattle.admission.specs.Events.{answerNumbers};
+ghost use Rattle.admission.specs.Drain.{endNumber};
+use admission::Answer;
+use admission::End;
+use model::Check;
+
+pub fn answer_number(a: Answer) -> u32
+    ensures { λ r. ⌜ r ≡ answerNumbers a .0 ⌝ }
+{
+    match a {
+        Answer::Admitted => 0,
+        Answer::UnsoundPlan => 11,
+        Answer::Disagreement => 12,
+        Answer::BadNumber => 13,
+        Answer::WrongActivity => 14,
+        Answer::UnknownType => 15,
+        Answer::Full => 16,
+        Answer::WrongStage => 17,
+        Answer::OverCapacity(_) => 18,
+        Answer::RowBroken(_) => 19,
+    }
+}
+
+pub fn answer_place(a: Answer) -> u32
+    ensures { λ r. ⌜ r ≡ answerNumbers a .1 ⌝ }
+{
+    match a {
+        Answer::Admitted => 0,
+        Answer::UnsoundPlan => 0,
+        Answer::Disagreement => 0,
+        Answer::BadNumber => 0,
+        Answer::WrongActivity => 0,
+        Answer::UnknownType => 0,
+        Answer::Full => 0,
+        Answer::WrongStage => 0,
+        Answer::OverCapacity(resource) => resource,
+        Answer::RowBroken(row) => row,
+    }
+}
+
+pub fn end_number(e: End) -> u32
+    ensures { λ r. ⌜ r ≡ endNumber e ⌝ }
+{
+    match e {
+        End::Emptied => 0,
+        End::UnsoundPlan => 11,
+        End::Disagreement => 12,
+        End::OutOfBudget => 31,
+        End::NoMove => 32,
+    }
+}
+
+pub fn check_number(c: Check) -> u32
+    ensures { λ r. ⌜ r ≡ checkNumbers c .0 ⌝ }
+{
+    match c {
+        Check::Meets => 0,
+        Check::UnsoundPlan => 11,
+        Check::NoRank => 21,
+        Check::NotOneUnit { kind: _, stage: _ } => 22,
+        Check::RowCount => 23,
+        Check::WrongWeight(_) => 24,
+        Check::WrongBound(_) => 25,
+    }
+}
+
+// The type of a stage, or the row; 0 where the answer has no place.
+pub fn check_first(c: Check) -> u32
+    ensures { λ r. ⌜ r ≡ checkNumbers c .1 ⌝ }
+{
+    match c {
+        Check::NotOneUnit { kind, stage: _ } => kind,
+        Check::WrongWeight(row) => row,
+        Check::WrongBound(row) => row,
+        Check::Meets => 0,
+        Check::UnsoundPlan => 0,
+        Check::NoRank => 0,
+        Check::RowCount => 0,
+    }
+}
+
+// The number of a stage; 0 where the answer names none.
+pub fn check_second(c: Check) -> u32
+    ensures { λ r. ⌜ r ≡ checkNumbers c .2 ⌝ }
+{
+    match c {
+        Check::NotOneUnit { kind: _, stage } => stage,
+        Check::Meets => 0,
+        Check::UnsoundPlan => 0,
+        Check::NoRank => 0,
+        Check::RowCount => 0,
+        Check::WrongWeight(_) => 0,
+        Check::WrongBound(_) => 0,
+    }
+}

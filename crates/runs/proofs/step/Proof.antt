@@ -1,0 +1,60 @@
+-- The letter says which event is run, if any.
+use mathlib.Core.Path.{refl}
+use borrow.Author.Tests.{eq-eqb, ne-eqb}
+use Rattle.admission.specs.declared.Event.the-variants.{Load, Advance, Unload}
+use Rattle.runs.proofs.Listed.{run-one}
+use borrow.Author.Needs.{needs}
+use Rattle.runs.proofs.step.Statement.{statement}
+use Rattle.runs.proofs.step.Tie as tie
+
+load-requires : tie.Need-load-requires
+load-requires c κs = search needs
+
+counted-requires : tie.Need-counted-requires
+counted-requires c κs = search needs
+
+returns : tie.Need-returns
+returns c =
+    let a = c .before .before .before .args in
+    rw (eq-eqb _ 76 (c .before .before .if1 .taken)) (run-one (a .p) (a .t) (Load (a .job) (a .kind)) (c .before .load .result) (c .counted .result) (c .before .load .ensures) (c .counted .ensures))
+
+advance-requires : tie.Need-advance-requires
+advance-requires c κs = search needs
+
+counted-requires-2 : tie.Need-counted-requires-2
+counted-requires-2 c κs = search needs
+
+returns-2 : tie.Need-returns-2
+returns-2 c =
+    let a = c .before .before .before .before .args in
+    rw (ne-eqb _ 76 (c .before .before .before .if1 .left), eq-eqb _ 65 (c .before .before .if2 .taken)) (run-one (a .p) (a .t) (Advance (a .job)) (c .before .advance .result) (c .counted2 .result) (c .before .advance .ensures) (c .counted2 .ensures))
+
+unload-requires : tie.Need-unload-requires
+unload-requires c κs = search needs
+
+counted-requires-3 : tie.Need-counted-requires-3
+counted-requires-3 c κs = search needs
+
+returns-3 : tie.Need-returns-3
+returns-3 c =
+    let a = c .before .before .before .before .before .args in
+    rw (ne-eqb _ 76 (c .before .before .before .before .if1 .left), ne-eqb _ 65 (c .before .before .before .if2 .left), eq-eqb _ 85 (c .before .before .if3 .taken)) (run-one (a .p) (a .t) (Unload (a .job)) (c .before .unload .result) (c .counted3 .result) (c .before .unload .ensures) (c .counted3 .ensures))
+
+returns-4 : tie.Need-returns-4
+returns-4 c =
+    rw (ne-eqb _ 76 (c .before .before .if1 .left), ne-eqb _ 65 (c .before .if2 .left), ne-eqb _ 85 (c .if3 .left)) refl
+
+pub step-spec : {M : Type 1} → statement M
+step-spec =
+    tie.close
+    (tie.spec
+    load-requires
+    counted-requires
+    returns
+    advance-requires
+    counted-requires-2
+    returns-2
+    unload-requires
+    counted-requires-3
+    returns-3
+    returns-4)

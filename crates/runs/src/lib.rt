@@ -1,0 +1,69 @@
+// A whole list of events run through the entrances, by their contracts alone.
+ghost use mathlib.Core.Path.{_≡_};
+ghost use mathlib.Core.Bool.{cond};
+ghost use Rattle.admission.specs.Events.{isAdmitted};
+ghost use Rattle.runs.specs.Run.{eventOf, eventsOf, ran};
+use admission::Answer;
+use admission::Outcome;
+use admission::Table;
+use model::Plan;
+use numbers::answer_number;
+
+// The table after a list of events, and how many were admitted.
+pub struct Ran {
+    pub table: Table,
+    pub admitted: usize,
+}
+
+fn is_admitted(answer: Answer) -> bool
+    ensures { λ r. ⌜ r ≡ isAdmitted answer ⌝ }
+{
+    answer_number(answer) == 0
+}
+
+fn counted(o: Outcome) -> Ran
+    ensures { λ r. ⌜ (r .table ≡ o .table) × (r .admitted ≡ cond (isAdmitted (o .answer)) 1 0) ⌝ }
+{
+    let answer = o.answer;
+    let table = o.table;
+    if is_admitted(answer) {
+        Ran { table, admitted: 1 }
+    } else {
+        Ran { table, admitted: 0 }
+    }
+}
+
+// One event: L loads, A advances, U unloads, as in an event line; another letter is no event.
+fn step(t: Table, p: Plan, letter: u8, job: u32, kind: u32) -> Ran
+    ensures { λ r. ⌜ r ≡ ran p t (eventOf letter job kind) ⌝ }
+{
+    if letter == b'L' {
+        return counted(t.load(p, job, kind));
+    }
+    if letter == b'A' {
+        return counted(t.advance(p, job));
+    }
+    if letter == b'U' {
+        return counted(t.unload(p, job));
+    }
+    Ran {
+        table: t,
+        admitted: 0,
+    }
+}
+
+// The events are as many as the shortest slice has.
+pub fn run(t: Table, p: Plan, letters: &[u8], jobs: &[u32], kinds: &[u32]) -> Ran
+    ensures { λ r. ⌜ r ≡ ran p t (eventsOf (now (letters .entry)) (now (jobs .entry)) (now (kinds .entry))) ⌝ }
+{
+    let mut t = t;
+    let mut admitted = 0;
+    let mut i = 0;
+    while i < letters.len() && i < jobs.len() && i < kinds.len() {
+        let next = step(t, p, letters[i], jobs[i], kinds[i]);
+        t = next.table;
+        admitted += next.admitted;
+        i += 1;
+    }
+    Ran { table: t, admitted }
+}
