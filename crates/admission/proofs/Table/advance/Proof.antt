@@ -115,13 +115,13 @@ within c =
     step-places (pass h) (at (named (going h))) (low (named (going h))) (more (going h)) (c .before .before .before .place .result) (c .place2 .result) (c .before .before .before .place .ensures) (c .place2 .ensures)
 
 opened-requires : tie.Need-opened-requires
-opened-requires c κs = search needs
+opened-requires c κs = tt
 
 is-admitted-requires : tie.Need-is-admitted-requires
-is-admitted-requires c κs = search needs
+is-admitted-requires c κs = tt
 
 decided-requires : tie.Need-decided-requires
-decided-requires c κs = search needs
+decided-requires c κs = tt
 
 returns : tie.Need-returns
 returns c =
@@ -136,10 +136,10 @@ find-requires : tie.Need-find-requires
 find-requires c κs = both c .1 .few
 
 is-admitted-requires-2 : tie.Need-is-admitted-requires-2
-is-admitted-requires-2 c κs = search needs
+is-admitted-requires-2 c κs = tt
 
 decided-requires-2 : tie.Need-decided-requires-2
-decided-requires-2 c κs = search needs
+decided-requires-2 c κs = tt
 
 returns-2 : tie.Need-returns-2
 returns-2 c =
@@ -161,7 +161,7 @@ length-of-requires : tie.Need-length-of-requires
 length-of-requires c κs = typed (c .before .before .before)
 
 decided-requires-3 : tie.Need-decided-requires-3
-decided-requires-3 c κs = search needs
+decided-requires-3 c κs = tt
 
 returns-3 : tie.Need-returns-3
 returns-3 c =
@@ -172,7 +172,7 @@ returns-3 c =
     (first-met (plan s) (table s) (event s) (met (first n)) ∙ advance-stops (plan s) (table s) (both (first n) .0) (both (first n) .1) (s .args .job) (at n) (n .before .before .find .ensures .1) (active n) (omega (arith, h .if3 .taken, h .before .before .length-of .ensures))) refl (c .decided3 .ensures)
 
 stages-before-requires : tie.Need-stages-before-requires
-stages-before-requires c κs = search needs
+stages-before-requires c κs = tt
 
 place-requires : tie.Need-place-requires
 place-requires c κs =
@@ -202,7 +202,7 @@ element-copy-out-new : tie.Need-element-copy-out-new
 element-copy-out-new c = within (c .before) .1
 
 limits-of-requires : tie.Need-limits-of-requires
-limits-of-requires c κs = search needs
+limits-of-requires c κs = tt
 
 judged-requires : tie.Need-judged-requires
 judged-requires c κs =
@@ -222,7 +222,7 @@ with-stage-requires : tie.Need-with-stage-requires
 with-stage-requires c κs = below (named (going (c .before .before .before .before .before .before .before .before .before .before)))
 
 decided-requires-4 : tie.Need-decided-requires-4
-decided-requires-4 c κs = search needs
+decided-requires-4 c κs = tt
 
 returns-4 : tie.Need-returns-4
 returns-4 c =

@@ -8,10 +8,10 @@ use Rattle.admission.proofs.Table.drain.Statement.{statement}
 use Rattle.admission.proofs.Table.drain.Tie as tie
 
 agreement-requires : tie.Need-agreement-requires
-agreement-requires c κs = search needs
+agreement-requires c κs = tt
 
 is-admitted-requires : tie.Need-is-admitted-requires
-is-admitted-requires c κs = search needs
+is-admitted-requires c κs = tt
 
 drain-from-requires : tie.Need-drain-from-requires
 drain-from-requires c κs =
@@ -26,7 +26,7 @@ returns c =
     ∙ sym (drain-begins (a .p) (a .self) (a .budget) (sym (h .before .is-admitted .ensures ∙ ap isAdmitted (h .before .before .agreement .ensures)) ∙ h .if1 .taken))
 
 is-sound-requires : tie.Need-is-sound-requires
-is-sound-requires c κs = search needs
+is-sound-requires c κs = tt
 
 returns-2 : tie.Need-returns-2
 returns-2 c =

@@ -94,13 +94,13 @@ within c =
     load-place (pass h) (s .args .job) (s .args .kind) (type (named h)) (c .place .result) (c .place .ensures)
 
 opened-requires : tie.Need-opened-requires
-opened-requires c κs = search needs
+opened-requires c κs = tt
 
 is-admitted-requires : tie.Need-is-admitted-requires
-is-admitted-requires c κs = search needs
+is-admitted-requires c κs = tt
 
 decided-requires : tie.Need-decided-requires
-decided-requires c κs = search needs
+decided-requires c κs = tt
 
 returns : tie.Need-returns
 returns c =
@@ -118,10 +118,10 @@ load-answer-requires : tie.Need-load-answer-requires
 load-answer-requires c κs = both c .1 .few
 
 is-admitted-requires-2 : tie.Need-is-admitted-requires-2
-is-admitted-requires-2 c κs = search needs
+is-admitted-requires-2 c κs = tt
 
 decided-requires-2 : tie.Need-decided-requires-2
-decided-requires-2 c κs = search needs
+decided-requires-2 c κs = tt
 
 returns-2 : tie.Need-returns-2
 returns-2 c =
@@ -134,7 +134,7 @@ returns-2 c =
     (first-met (plan s) (table s) (event s) (met a) ∙ load-refused (plan s) (jobsOf (table s)) (s .args .job) (s .args .kind) (sym (ap isAdmitted (own .ensures)) ∙ refused) ∙ sym (own .ensures)) refused (c .decided2 .ensures)
 
 stages-before-requires : tie.Need-stages-before-requires
-stages-before-requires c κs = search needs
+stages-before-requires c κs = tt
 
 place-requires : tie.Need-place-requires
 place-requires c κs =
@@ -149,10 +149,10 @@ element-copy-out-new : tie.Need-element-copy-out-new
 element-copy-out-new c = within c
 
 no-stage-requires : tie.Need-no-stage-requires
-no-stage-requires c κs = search needs
+no-stage-requires c κs = tt
 
 limits-of-requires : tie.Need-limits-of-requires
-limits-of-requires c κs = search needs
+limits-of-requires c κs = tt
 
 judged-requires : tie.Need-judged-requires
 judged-requires c κs =
@@ -167,7 +167,7 @@ with-job-requires : tie.Need-with-job-requires
 with-job-requires c κs = room (named (c .before .before .before .before .before .before))
 
 decided-requires-3 : tie.Need-decided-requires-3
-decided-requires-3 c κs = search needs
+decided-requires-3 c κs = tt
 
 returns-3 : tie.Need-returns-3
 returns-3 c =

@@ -81,13 +81,13 @@ module _ (c : tie.Else2) where
   typed = omega (arith, placed .0, both first .0 .types)
 
 opened-requires : tie.Need-opened-requires
-opened-requires c κs = search needs
+opened-requires c κs = tt
 
 is-admitted-requires : tie.Need-is-admitted-requires
-is-admitted-requires c κs = search needs
+is-admitted-requires c κs = tt
 
 decided-requires : tie.Need-decided-requires
-decided-requires c κs = search needs
+decided-requires c κs = tt
 
 returns : tie.Need-returns
 returns c =
@@ -102,10 +102,10 @@ find-requires : tie.Need-find-requires
 find-requires c κs = both c .1 .few
 
 is-admitted-requires-2 : tie.Need-is-admitted-requires-2
-is-admitted-requires-2 c κs = search needs
+is-admitted-requires-2 c κs = tt
 
 decided-requires-2 : tie.Need-decided-requires-2
-decided-requires-2 c κs = search needs
+decided-requires-2 c κs = tt
 
 returns-2 : tie.Need-returns-2
 returns-2 c =
@@ -127,7 +127,7 @@ length-of-requires : tie.Need-length-of-requires
 length-of-requires c κs = typed (c .before .before .before)
 
 decided-requires-3 : tie.Need-decided-requires-3
-decided-requires-3 c κs = search needs
+decided-requires-3 c κs = tt
 
 returns-3 : tie.Need-returns-3
 returns-3 c =
@@ -141,7 +141,7 @@ without-requires : tie.Need-without-requires
 without-requires c κs = let n = c .before .before .before .before .before .before in (low n, both (first n) .1 .few)
 
 decided-requires-4 : tie.Need-decided-requires-4
-decided-requires-4 c κs = search needs
+decided-requires-4 c κs = tt
 
 returns-4 : tie.Need-returns-4
 returns-4 c =

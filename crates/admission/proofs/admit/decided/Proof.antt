@@ -5,7 +5,7 @@ use Rattle.admission.proofs.admit.decided.Statement.{statement}
 use Rattle.admission.proofs.admit.decided.Tie as tie
 
 is-admitted-requires : tie.Need-is-admitted-requires
-is-admitted-requires c κs = search needs
+is-admitted-requires c κs = tt
 
 returns : tie.Need-returns
 returns c = (refl, rw (sym (c .before .is-admitted .ensures) ∙ c .if1 .taken) refl)

@@ -11,7 +11,7 @@ place-of-requires : tie.Need-place-of-requires
 place-of-requires c κs = search needs
 
 in-range-requires : tie.Need-in-range-requires
-in-range-requires c κs = search needs
+in-range-requires c κs = tt
 
 returns : tie.Need-returns
 returns c = (rw (sym (c .before .in-range .ensures) ∙ not-true _ (c .if1 .taken)) refl, c .before .before .place-of .ensures)

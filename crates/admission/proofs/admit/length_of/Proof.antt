@@ -16,7 +16,7 @@ element-copy-out-long : tie.Need-element-copy-out-long
 element-copy-out-long c = search needs
 
 long-requires : tie.Need-long-requires
-long-requires c κs = search needs
+long-requires c κs = tt
 
 returns : tie.Need-returns
 returns c = let a = c .before .before .args in c .long .ensures ∙ sym (at-place (a .lengths .now) (a .kind) (omega arith))

@@ -34,7 +34,7 @@ typed : (c : tie.Else3) → inRange (start (c .before .before) .args .kind) (sta
 typed c = sym (c .before .in-range2 .ensures) ∙ not-false _ (c .if3 .left)
 
 in-range-requires : tie.Need-in-range-requires
-in-range-requires c κs = search needs
+in-range-requires c κs = tt
 
 returns : tie.Need-returns
 returns c = rw (sym (c .before .in-range .ensures) ∙ not-true _ (c .if1 .taken)) refl
@@ -49,7 +49,7 @@ returns-2 c =
     rw (sym (c .before .before .before .in-range .ensures) ∙ not-false _ (c .before .before .if1 .left), active-there (s .args .t) (table-places (s .args .t) _ (s .good .0)) (s .pre) (s .args .job) (at .result) (at .ensures) (c .if2 .taken)) refl
 
 in-range-requires-2 : tie.Need-in-range-requires-2
-in-range-requires-2 c κs = search needs
+in-range-requires-2 c κs = tt
 
 returns-3 : tie.Need-returns-3
 returns-3 c =

@@ -45,7 +45,7 @@ part-none-equals-end : tie.Need-part-none-equals-end Inv-loop μ-loop
 part-none-equals-end c = search needs
 
 none-equals-requires : tie.Need-none-equals-requires Inv-loop μ-loop
-none-equals-requires c κs = search needs
+none-equals-requires c κs = tt
 
 -- the part lent is all that stands after place i
 rest-differs : (c : tie.After-none-equals Inv-loop μ-loop) → let ns = c .before .before .before .before .before .before .args .ns .now in let i = c .before .before .before .before .loop .i in each (λ (m : ℕ). not (eqb m (getD ns i 0))) (drop (i + 1) ns) ≡ c .none-equals .result

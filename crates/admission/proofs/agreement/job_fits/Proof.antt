@@ -11,14 +11,14 @@ use Rattle.admission.proofs.agreement.job_fits.Statement.{statement}
 use Rattle.admission.proofs.agreement.job_fits.Tie as tie
 
 in-range-requires : tie.Need-in-range-requires
-in-range-requires c κs = search needs
+in-range-requires c κs = tt
 
 returns : tie.Need-returns
 unfolding fits
 returns c = rw (sym (c .before .in-range .ensures) ∙ not-true _ (c .if1 .taken)) refl
 
 in-range-requires-2 : tie.Need-in-range-requires-2
-in-range-requires-2 c κs = search needs
+in-range-requires-2 c κs = tt
 
 returns-2 : tie.Need-returns-2
 unfolding fits
@@ -38,10 +38,10 @@ element-copy-out-long : tie.Need-element-copy-out-long
 element-copy-out-long c = omega (arith, in-plan c)
 
 long-requires : tie.Need-long-requires
-long-requires c κs = search needs
+long-requires c κs = tt
 
 in-range-requires-3 : tie.Need-in-range-requires-3
-in-range-requires-3 c κs = search needs
+in-range-requires-3 c κs = tt
 
 returns-3 : tie.Need-returns-3
 unfolding fits

@@ -28,7 +28,7 @@ element-copy-out-j : tie.Need-element-copy-out-j Inv-loop μ-loop
 element-copy-out-j c = search needs
 
 is-none-requires : tie.Need-is-none-requires Inv-loop μ-loop
-is-none-requires c κs = search needs
+is-none-requires c κs = tt
 
 returns : tie.Need-returns Inv-loop μ-loop
 returns c =

@@ -9,10 +9,10 @@ use Rattle.admission.proofs.agreement.opened.Statement.{statement}
 use Rattle.admission.proofs.agreement.opened.Tie as tie
 
 is-sound-requires : tie.Need-is-sound-requires
-is-sound-requires c κs = search needs
+is-sound-requires c κs = tt
 
 refused-requires : tie.Need-refused-requires
-refused-requires c κs = search needs
+refused-requires c κs = tt
 
 returns : tie.Need-returns
 returns c =

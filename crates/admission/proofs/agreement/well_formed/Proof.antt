@@ -18,7 +18,7 @@ unfolding wellFormed
 returns c = rw (lt-leb (c .before .args .t .count) maxJobs (c .if1 .taken)) refl
 
 none-beyond-requires : tie.Need-none-beyond-requires
-none-beyond-requires c κs = search needs
+none-beyond-requires c κs = tt
 
 returns-2 : tie.Need-returns-2
 unfolding wellFormed
@@ -33,7 +33,7 @@ returns-3 c =
     rw (le-leb (c .before .before .before .before .before .args .t .count) maxJobs (c .before .before .before .before .if1 .left), sym (c .before .before .before .none-beyond .ensures) ∙ not-false _ (c .before .before .if2 .left), sym (c .before .jobs-fit .ensures) ∙ not-true _ (c .if3 .taken)) refl
 
 numbers-of-requires : tie.Need-numbers-of-requires
-numbers-of-requires c κs = search needs
+numbers-of-requires c κs = tt
 
 array-share-prefix-numbers : tie.Need-array-share-prefix-numbers
 array-share-prefix-numbers c = search needs
@@ -46,7 +46,7 @@ slice-aggregate-all-distinct c =
     sym (length-take-le (s .args .t .count) (numbers .result) (omega (arith, c .before .before .before .before .before .before .if1 .left)))
 
 all-distinct-requires : tie.Need-all-distinct-requires
-all-distinct-requires c κs = search needs
+all-distinct-requires c κs = tt
 
 returns-4 : tie.Need-returns-4
 unfolding wellFormed

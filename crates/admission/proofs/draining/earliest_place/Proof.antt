@@ -77,10 +77,10 @@ sums-of-requires : tie.Need-sums-of-requires Inv-loop μ-loop
 sums-of-requires c κs = (c .pre .0, c .pre .1 .jobs .placed, c .pre .1 .few)
 
 limits-of-requires : tie.Need-limits-of-requires Inv-loop μ-loop
-limits-of-requires c κs = search needs
+limits-of-requires c κs = tt
 
 stages-before-requires : tie.Need-stages-before-requires Inv-loop μ-loop
-stages-before-requires c κs = search needs
+stages-before-requires c κs = tt
 
 loop-holds : tie.Need-loop-holds Inv-loop μ-loop
 loop-holds c =
@@ -153,7 +153,7 @@ judged-requires c κs =
     step-judge-asks (pass h) (i h) (low h) (more h) (from .result) (to .result) (from .ensures) (to .ensures) _ _ (l .inv .1) _ (l .inv .0)
 
 is-admitted-requires : tie.Need-is-admitted-requires Inv-loop μ-loop
-is-admitted-requires c κs = search needs
+is-admitted-requires c κs = tt
 
 returns-2 : tie.Need-returns-2 Inv-loop μ-loop
 returns-2 c =

@@ -29,7 +29,7 @@ element-copy-out-word : tie.Need-element-copy-out-word Inv-loop μ-loop
 element-copy-out-word c = search needs
 
 word-requires : tie.Need-word-requires Inv-loop μ-loop
-word-requires c κs = search needs
+word-requires c κs = tt
 
 sub-next : tie.Need-sub-next Inv-loop μ-loop
 sub-next c = omega (arith, c .before .before .before .before .pre .1 (suc (c .before .before .before .loop .i)) (omega arith))
@@ -38,7 +38,7 @@ element-copy-out-word-2 : tie.Need-element-copy-out-word-2 Inv-loop μ-loop
 element-copy-out-word-2 c = search needs
 
 word-requires-2 : tie.Need-word-requires-2 Inv-loop μ-loop
-word-requires-2 c κs = search needs
+word-requires-2 c κs = tt
 
 add-next : tie.Need-add-next Inv-loop μ-loop
 add-next c =

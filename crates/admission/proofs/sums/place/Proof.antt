@@ -18,7 +18,7 @@ element-copy-out-whole : tie.Need-element-copy-out-whole
 element-copy-out-whole c = search needs
 
 whole-requires : tie.Need-whole-requires
-whole-requires c κs = search needs
+whole-requires c κs = tt
 
 add-result : tie.Need-add-result
 add-result c = search needs

@@ -25,10 +25,10 @@ cast-rows : tie.Need-cast-rows Inv-loop μ-loop
 cast-rows c = search needs
 
 stages-before-requires : tie.Need-stages-before-requires Inv-loop μ-loop
-stages-before-requires c κs = search needs
+stages-before-requires c κs = tt
 
 none-requires : tie.Need-none-requires Inv-loop μ-loop
-none-requires c κs = search needs
+none-requires c κs = tt
 
 loop-holds : tie.Need-loop-holds Inv-loop μ-loop
 loop-holds c =
@@ -70,7 +70,7 @@ element-copy-out-s : tie.Need-element-copy-out-s Inv-loop μ-loop
 element-copy-out-s c = within c
 
 no-stage-requires : tie.Need-no-stage-requires Inv-loop μ-loop
-no-stage-requires c κs = search needs
+no-stage-requires c κs = tt
 
 swapped-requires : tie.Need-swapped-requires Inv-loop μ-loop
 swapped-requires c κs =

@@ -112,7 +112,7 @@ cast-rows : tie.Need-cast-rows Inv-loop μ-loop
 cast-rows c = search needs
 
 sound-counts-requires : tie.Need-sound-counts-requires Inv-loop μ-loop
-sound-counts-requires c κs = search needs
+sound-counts-requires c κs = tt
 
 returns : tie.Need-returns Inv-loop μ-loop
 unfolding sound
@@ -131,7 +131,7 @@ slice-aggregate-sound-bounds : tie.Need-slice-aggregate-sound-bounds Inv-loop μ
 slice-aggregate-sound-bounds c = search needs
 
 sound-bounds-requires : tie.Need-sound-bounds-requires Inv-loop μ-loop
-sound-bounds-requires c κs = search needs
+sound-bounds-requires c κs = tt
 
 returns-2 : tie.Need-returns-2 Inv-loop μ-loop
 unfolding sound
@@ -159,7 +159,7 @@ returns-3 c =
     fails (h .before) (stands (h .before) (h .if6 .taken) (c .before .sound-stage .ensures)) (not-true _ (c .if7 .taken))
 
 empty-stage-requires : tie.Need-empty-stage-requires Inv-loop μ-loop
-empty-stage-requires c κs = search needs
+empty-stage-requires c κs = tt
 
 returns-4 : tie.Need-returns-4 Inv-loop μ-loop
 returns-4 c =

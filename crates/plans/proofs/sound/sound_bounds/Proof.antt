@@ -8,7 +8,7 @@ use Rattle.plans.proofs.sound.sound_bounds.Statement.{statement}
 use Rattle.plans.proofs.sound.sound_bounds.Tie as tie
 
 zero-bounds-beyond-requires : tie.Need-zero-bounds-beyond-requires
-zero-bounds-beyond-requires c κs = search needs
+zero-bounds-beyond-requires c κs = tt
 
 returns : tie.Need-returns
 unfolding soundBounds

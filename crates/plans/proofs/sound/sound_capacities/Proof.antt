@@ -9,7 +9,7 @@ all-in-range-requires : tie.Need-all-in-range-requires
 all-in-range-requires c κs = search needs
 
 zero-beyond-requires : tie.Need-zero-beyond-requires
-zero-beyond-requires c κs = search needs
+zero-beyond-requires c κs = tt
 
 returns : tie.Need-returns
 unfolding soundCapacities

@@ -17,7 +17,7 @@ total-of-requires : tie.Need-total-of-requires
 total-of-requires c κs = search needs
 
 zero-beyond-requires : tie.Need-zero-beyond-requires
-zero-beyond-requires c κs = search needs
+zero-beyond-requires c κs = tt
 
 so-far : (c : tie.Joined1) → let args = c .before .before .before .args in c .if1 .if2 ≡ (allTo (args .n) (λ i. inRange (at (args .lengths .now) i) maxStages) && leb (sumTo (args .n) (at (args .lengths .now))) maxAllStages)
 so-far c =

@@ -17,7 +17,7 @@ all-zero-requires : tie.Need-all-zero-requires
 all-zero-requires c κs = search needs
 
 zero-beyond-requires : tie.Need-zero-beyond-requires
-zero-beyond-requires c κs = search needs
+zero-beyond-requires c κs = tt
 
 ranked : (c : tie.Joined1) → let args = c .before .before .before .args in c .if1 .if2 ≡ (allTo (args .n) (λ i. inRange (at (args .rank .now) i) maxUnits) || allTo (args .n) (λ i. eqb (at (args .rank .now) i) 0))
 ranked c =

@@ -28,13 +28,13 @@ slice-aggregate-zero-beyond : tie.Need-slice-aggregate-zero-beyond
 slice-aggregate-zero-beyond c = search needs
 
 zero-beyond-requires : tie.Need-zero-beyond-requires
-zero-beyond-requires c κs = search needs
+zero-beyond-requires c κs = tt
 
 slice-aggregate-zero-beyond-2 : tie.Need-slice-aggregate-zero-beyond-2
 slice-aggregate-zero-beyond-2 c = search needs
 
 zero-beyond-requires-2 : tie.Need-zero-beyond-requires-2
-zero-beyond-requires-2 c κs = search needs
+zero-beyond-requires-2 c κs = tt
 
 abbrev demands : Stage → ℕ → List ℕ → Bool
 demands s n capacity =

@@ -26,13 +26,13 @@ element-copy-out-wide-bound : tie.Need-element-copy-out-wide-bound Inv-loop μ-l
 element-copy-out-wide-bound c = search needs
 
 wide-bound-requires : tie.Need-wide-bound-requires Inv-loop μ-loop
-wide-bound-requires c κs = search needs
+wide-bound-requires c κs = tt
 
 element-copy-out-wide : tie.Need-element-copy-out-wide Inv-loop μ-loop
 element-copy-out-wide c = search needs
 
 wide-requires : tie.Need-wide-requires Inv-loop μ-loop
-wide-requires c κs = search needs
+wide-requires c κs = tt
 
 add-result : tie.Need-add-result Inv-loop μ-loop
 add-result c = search needs

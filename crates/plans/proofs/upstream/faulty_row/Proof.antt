@@ -108,13 +108,13 @@ fault c =
     (λ right. c .if3 .taken (sym (weight-is j) ∙ right ∙ sym (due-is (c .before .before))))
 
 wide-requires : tie.Need-wide-requires Inv-stages μ-stages Inv-rows μ-rows
-wide-requires c κs = search needs
+wide-requires c κs = tt
 
 wide-requires-2 : tie.Need-wide-requires-2 Inv-stages μ-stages Inv-rows μ-rows
-wide-requires-2 c κs = search needs
+wide-requires-2 c κs = tt
 
 wide-requires-3 : tie.Need-wide-requires-3 Inv-stages μ-stages Inv-rows μ-rows
-wide-requires-3 c κs = search needs
+wide-requires-3 c κs = tt
 
 total-of-requires : tie.Need-total-of-requires Inv-stages μ-stages Inv-rows μ-rows
 total-of-requires c κs = search needs
@@ -129,7 +129,7 @@ array-read-wide : tie.Need-array-read-wide Inv-stages μ-stages Inv-rows μ-rows
 array-read-wide c = search needs
 
 wide-requires-4 : tie.Need-wide-requires-4 Inv-stages μ-stages Inv-rows μ-rows
-wide-requires-4 c κs = search needs
+wide-requires-4 c κs = tt
 
 stages-holds : tie.Need-stages-holds Inv-stages μ-stages Inv-rows μ-rows
 stages-holds c =
@@ -149,7 +149,7 @@ array-read-wide-2 : tie.Need-array-read-wide-2 Inv-stages μ-stages Inv-rows μ-
 array-read-wide-2 c = search needs
 
 wide-requires-5 : tie.Need-wide-requires-5 Inv-stages μ-stages Inv-rows μ-rows
-wide-requires-5 c κs = search needs
+wide-requires-5 c κs = tt
 
 sub-at : tie.Need-sub-at Inv-stages μ-stages Inv-rows μ-rows
 sub-at c = search needs

@@ -65,10 +65,10 @@ asked c =
     rw (stage-read p (t s) (k s) (of-type s) (of-stage s) (record { demand = []; weight = [] }) (omega (arith, at, long, within s)), ← at) (sym (rw (c .before .before .before .before .before .before .before .before .before .wide .ensures .0) at (c .one-unit .ensures)))
 
 wide-requires : tie.Need-wide-requires Inv-stages μ-stages Inv-types μ-types
-wide-requires c κs = search needs
+wide-requires c κs = tt
 
 wide-requires-2 : tie.Need-wide-requires-2 Inv-stages μ-stages Inv-types μ-types
-wide-requires-2 c κs = search needs
+wide-requires-2 c κs = tt
 
 types-holds : tie.Need-types-holds Inv-stages μ-stages Inv-types μ-types
 types-holds c = search needs
@@ -77,7 +77,7 @@ element-copy-out-wide : tie.Need-element-copy-out-wide Inv-stages μ-stages Inv-
 element-copy-out-wide c = search needs
 
 wide-requires-3 : tie.Need-wide-requires-3 Inv-stages μ-stages Inv-types μ-types
-wide-requires-3 c κs = search needs
+wide-requires-3 c κs = tt
 
 stages-holds : tie.Need-stages-holds Inv-stages μ-stages Inv-types μ-types
 stages-holds c = search needs
