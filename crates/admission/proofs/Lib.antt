@@ -1,4 +1,4 @@
--- The laws of the table, the events, the drain and the ledger, and the emptying theorem. Read in this order.
+-- The laws of the table, the events and the drain, and those that join the code to the definitions. Read in this order.
 pub mod Arrays
 pub mod Gap
 pub mod Limits
