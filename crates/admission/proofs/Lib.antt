@@ -9,6 +9,7 @@ pub mod After
 pub mod Openings
 pub mod Events
 pub mod Asking
+pub mod Loading
 pub mod Named
 pub mod Trying
 pub mod Turns

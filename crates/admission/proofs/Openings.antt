@@ -1,5 +1,5 @@
 -- The first two questions as the code asks them: what it hands on is what the definition answers, with the sums over the
--- jobs where both are met.
+-- jobs and the plan's limits where both are met.
 use Prim.Native.Nat.{ℕ}
 use mathlib.Core.Bool.{Bool, true, false, cond, _&&_, false≢true}
 use mathlib.Core.Path.{_≡_, refl, sym, ap, _∙_}
@@ -13,7 +13,7 @@ use Rattle.model.proofs.Decide.{passes}
 use Rattle.model.proofs.Soundness.{decides-sound}
 use Rattle.admission.specs.Table.{jobsOf, agrees}
 use Rattle.admission.specs.Events.{agreement, isAdmitted, keptAnswer}
-use Rattle.admission.specs.Parts.{SumsOf, Opens, wellFormed}
+use Rattle.admission.specs.Parts.{SumsOf, limitsOf, Opens, wellFormed}
 use Rattle.admission.specs.declared.Table.{Table}
 use Rattle.admission.specs.declared.Answer.{Answer}
 use Rattle.admission.specs.declared.Answer.the-variants.{Admitted, UnsoundPlan, Disagreement, OverCapacity, RowBroken}
@@ -33,7 +33,10 @@ kept-admitted resource row = go (eqb resource 0) (eqb row 0)
 module _ (p : Plan) (t : Table) (o : Opening) where
   refused-opens : (a : Answer) → isAdmitted a ≡ false → agreement p t ≡ a → o .answer ≡ a → Opens p t o
   refused-opens a refused e f =
-      record { answer = f ∙ sym e; sums = λ h. absurd (false≢true (sym refused ∙ ap isAdmitted (sym e ∙ h))) }
+      record { answer = f ∙ sym e; sums = λ h. absurd (never h); limits = λ h. absurd (never h) }
+    where
+      never : ¬ (agreement p t ≡ Admitted)
+      never h = false≢true (sym refused ∙ ap isAdmitted (sym e ∙ h))
 
   pub unsound-opens : sound p ≡ false → o .answer ≡ UnsoundPlan → Opens p t o
   unfolding agreement
@@ -55,7 +58,7 @@ module _ (p : Plan) (t : Table) (o : Opening) where
         pub limited-opens : isAdmitted (keptAnswer (exceeded p (jobsOf t)) (broken p (jobsOf t))) ≡ false → o .answer ≡ Disagreement → Opens p t o
         limited-opens h e = disagreeing-opens (by-limits ∙ h) e
 
-        pub agreeing-opens : isAdmitted (keptAnswer (exceeded p (jobsOf t)) (broken p (jobsOf t))) ≡ true → o .answer ≡ Admitted → SumsOf p (jobsOf t) (o .sums) → Opens p t o
+        pub agreeing-opens : isAdmitted (keptAnswer (exceeded p (jobsOf t)) (broken p (jobsOf t))) ≡ true → o .answer ≡ Admitted → SumsOf p (jobsOf t) (o .sums) → o .limits ≡ limitsOf p → Opens p t o
         unfolding agreement
-        agreeing-opens h e sums =
-            record { answer = e ∙ rw (passes (decides-sound p) plan, by-limits, h) refl; sums = λ _. sums }
+        agreeing-opens h e sums limits =
+            record { answer = e ∙ rw (passes (decides-sound p) plan, by-limits, h) refl; sums = λ _. sums; limits = λ _. limits }

@@ -13,7 +13,6 @@ use lib.Seq.{drop-cons, getD-take}
 use borrow.Author.Tests.{eq-eqb, ne-eqb, lt-ltb}
 use Rattle.model.specs.Limits.{maxNumber}
 use Rattle.model.specs.Numbers.{InRange, Each, Distinct}
-use Rattle.model.specs.Questions.{answerOf}
 use Rattle.model.specs.Plan.{lengthOf}
 use Rattle.model.specs.Jobs.{noJob, exceeded, broken, isActive, advancedJob, numbers, Numbered}
 use Rattle.model.specs.Soundness.{Sound}
@@ -21,7 +20,7 @@ use Rattle.model.specs.declared.Plan.{Plan}
 use Rattle.model.specs.declared.Job.{Job}
 use Rattle.model.proofs.Decide.{passes, decides-range}
 use Rattle.admission.specs.Table.{jobsOf, Agrees}
-use Rattle.admission.specs.Events.{isAdmitted, nameQuestions, keptAnswer, answer, jobsAfter}
+use Rattle.admission.specs.Events.{isAdmitted, keptAnswer, answer, jobsAfter}
 use Rattle.admission.specs.Drain.{moveOf, earliest}
 use Rattle.admission.specs.Parts.{placeOf, firstMovable}
 use Rattle.admission.specs.declared.Table.{Table}
@@ -29,8 +28,7 @@ use Rattle.admission.specs.declared.Event.the-variants.{Advance, Unload}
 use Rattle.admission.specs.declared.Answer.the-variants.{Admitted}
 use Rattle.admission.proofs.Arrays.{each-place}
 use Rattle.admission.proofs.Places.{count-jobs, place-active}
-use Rattle.admission.proofs.Asking.{agreement-met, first-met}
-use Rattle.admission.proofs.Named.{advanced-list, unloaded-list, advance-goes, unload-goes}
+use Rattle.admission.proofs.Named.{Stands, advanced-list, unloaded-list, advance-goes, unload-goes}
 
 -- where numbers differ, the number of the job at a place is found at that place
 each-other : (n : ℕ) (js : List Job) (i : ℕ) → Each (λ (m : ℕ). m ≢ n) (numbers js) → i < length js → getD js i noJob .number ≢ n
@@ -66,8 +64,14 @@ module _ (p : Plan) (t : Table) (sound : Sound p) (agrees : Agrees p t) (i : ℕ
   active : isActive (job .number) (jobsOf t) ≡ true
   active = place-active (job .number) (jobsOf t) ∙ lt-ltb (placeOf (job .number) (jobsOf t)) (length (jobsOf t)) (omega (arith, found, counted))
 
-  named : isAdmitted (answerOf Admitted (nameQuestions (jobsOf t) (job .number))) ≡ true
-  named = rw (passes (decides-range (job .number) maxNumber) numbered, active) refl
+  stands : Stands p t (job .number) i
+  stands =
+      record {
+        sound = sound;
+        agrees = agrees;
+        met = rw (passes (decides-range (job .number) maxNumber) numbered, active) refl;
+        found = found;
+      }
 
   -- at its last stage
   module _ (last : lengthOf p (job .kind) ≡ job .stage) where
@@ -75,10 +79,10 @@ module _ (p : Plan) (t : Table) (sound : Sound p) (agrees : Agrees p t) (i : ℕ
     unload = rw (eq-eqb (job .stage) (lengthOf p (job .kind)) (sym last)) refl
 
     pub last-moves : answer p t (moveOf p job) ≡ Admitted
-    last-moves = ap (answer p t) unload ∙ unload-goes p t sound agrees (job .number) i found named last
+    last-moves = ap (answer p t) unload ∙ unload-goes stands last
 
     pub last-leads : jobsAfter p (jobsOf t) (moveOf p job) ≡ take i (jobsOf t) ++ drop (suc i) (jobsOf t)
-    last-leads = ap (jobsAfter p (jobsOf t)) unload ∙ unloaded-list p t sound agrees (job .number) i found named
+    last-leads = ap (jobsAfter p (jobsOf t)) unload ∙ unloaded-list stands
 
   -- at another
   module _ (other : lengthOf p (job .kind) ≢ job .stage) (more : job .stage < lengthOf p (job .kind)) where
@@ -86,13 +90,10 @@ module _ (p : Plan) (t : Table) (sound : Sound p) (agrees : Agrees p t) (i : ℕ
     advance = rw (ne-eqb (job .stage) (lengthOf p (job .kind)) (λ e. other (sym e))) refl
 
     pub next-moves : answer p t (moveOf p job) ≡ keptAnswer (exceeded p (set (jobsOf t) i (advancedJob p job))) (broken p (set (jobsOf t) i (advancedJob p job)))
-    next-moves =
-        ap (answer p t) advance
-        ∙ first-met p t (Advance (job .number)) (agreement-met p t sound agrees)
-        ∙ advance-goes p t sound agrees (job .number) i found named more
+    next-moves = ap (answer p t) advance ∙ advance-goes stands more
 
     pub next-leads : jobsAfter p (jobsOf t) (moveOf p job) ≡ set (jobsOf t) i (advancedJob p job)
-    next-leads = ap (jobsAfter p (jobsOf t)) advance ∙ advanced-list p t sound agrees (job .number) i found named
+    next-leads = ap (jobsAfter p (jobsOf t)) advance ∙ advanced-list stands
 
   -- the search goes on from this place or stops at it
   pub movable-from : firstMovable p t (drop i (jobsOf t)) ≡ cond (isAdmitted (answer p t (moveOf p job))) 0 (suc (firstMovable p t (drop (i + 1) (jobsOf t))))

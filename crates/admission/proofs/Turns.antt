@@ -4,6 +4,7 @@ use Prim.Native.Nat.{ℕ, zero, suc, _+_, _-_, _≤_, _<_}
 use native.Mathlib.Omega.{arith}
 use mathlib.Core.Bool.{Bool, true, false, cond, false≢true}
 use mathlib.Core.List.{List, [], _∷_}
+use mathlib.Core.Logic.{_≢_}
 use mathlib.Core.Path.{_≡_, refl, sym, ap, _∙_}
 use lib.ListN.{length, getD}
 use lib.Seq.{getD-take}
@@ -12,11 +13,12 @@ use Rattle.model.specs.Soundness.{Sound, sound}
 use Rattle.model.specs.declared.Plan.{Plan}
 use Rattle.model.specs.declared.Job.{Job}
 use Rattle.admission.specs.Table.{jobsOf, tableOf, Agrees, agrees}
-use Rattle.admission.specs.Events.{isAdmitted, agreement, answer, jobsAfter, tableAfter}
+use Rattle.admission.specs.Events.{answerNumbers, isAdmitted, agreement, answer, jobsAfter, tableAfter}
 use Rattle.admission.specs.Drain.{moveOf, isEmpty, stopped, oneMore, drainFrom, drain}
 use Rattle.admission.specs.Parts.{earliestPlace}
 use Rattle.admission.specs.declared.Table.{Table}
 use Rattle.admission.specs.declared.Event.{Event}
+use Rattle.admission.specs.declared.Answer.{Answer}
 use Rattle.admission.specs.declared.Answer.the-variants.{Admitted}
 use Rattle.admission.specs.declared.Answer.the-variants as answers
 use Rattle.admission.specs.declared.End.the-variants.{Emptied, UnsoundPlan, Disagreement, OutOfBudget, NoMove}
@@ -99,23 +101,35 @@ module _ (p : Plan) (t : Table) (plan : Sound p) (agreeing : Agrees p t) where
 
 -- a drain by the answers to its first two questions
 module _ (p : Plan) (t : Table) (budget : ℕ) where
-  begun : (a b : Bool) → isAdmitted (cond a (cond b Admitted answers.Disagreement) answers.UnsoundPlan) ≡ true → cond a (cond b (drainFrom p budget t) (stopped Disagreement t)) (stopped UnsoundPlan t) ≡ drainFrom p budget t
-  begun true true e = refl
-  begun true false e = absurd (false≢true e)
-  begun false b e = absurd (false≢true e)
+  abbrev begun : Bool → Bool → Drained
+  begun a b = cond a (cond b (drainFrom p budget t) (stopped Disagreement t)) (stopped UnsoundPlan t)
+
+  abbrev asked : Bool → Bool → Answer
+  asked a b = cond a (cond b Admitted answers.Disagreement) answers.UnsoundPlan
 
   pub drain-begins : isAdmitted (agreement p t) ≡ true → drain p t budget ≡ drainFrom p budget t
   unfolding drain agreement
-  drain-begins h = begun (sound p) (agrees p t) h
+  drain-begins h = go (sound p) (agrees p t) h
+    where
+      go : (a b : Bool) → isAdmitted (asked a b) ≡ true → begun a b ≡ drainFrom p budget t
+      go true true e = refl
+      go true false e = absurd (false≢true e)
+      go false b e = absurd (false≢true e)
 
-  pub drain-unsound : sound p ≡ false → drain p t budget ≡ stopped UnsoundPlan t
-  unfolding drain
-  drain-unsound h = rw h refl
-
-  refused : (b : Bool) → isAdmitted (cond b Admitted answers.Disagreement) ≡ false → b ≡ false
-  refused true e = e
-  refused false e = refl
-
-  pub drain-disagreeing : sound p ≡ true → isAdmitted (agreement p t) ≡ false → drain p t budget ≡ stopped Disagreement t
+  pub drain-unsound : agreement p t ≡ answers.UnsoundPlan → drain p t budget ≡ stopped UnsoundPlan t
   unfolding drain agreement
-  drain-disagreeing h k = rw (h, refused (agrees p t) (rw h at k)) refl
+  drain-unsound h = go (sound p) (agrees p t) (ap (λ (a : Answer). answerNumbers a .0) h)
+    where
+      go : (a b : Bool) → answerNumbers (asked a b) .0 ≡ 11 → begun a b ≡ stopped UnsoundPlan t
+      go true true e = absurd (omega arith)
+      go true false e = absurd (omega arith)
+      go false b e = refl
+
+  pub drain-disagreeing : isAdmitted (agreement p t) ≡ false → agreement p t ≢ answers.UnsoundPlan → drain p t budget ≡ stopped Disagreement t
+  unfolding drain agreement
+  drain-disagreeing h k = go (sound p) (agrees p t) h k
+    where
+      go : (a b : Bool) → isAdmitted (asked a b) ≡ false → asked a b ≢ answers.UnsoundPlan → begun a b ≡ stopped Disagreement t
+      go true true e n = absurd (false≢true (sym e))
+      go true false e n = refl
+      go false b e n = absurd (n refl)

@@ -62,10 +62,12 @@ wellFormed types lengths t =
     && each isNoJob (drop (t .count) (t .jobs))
     && (each (fits types lengths) (jobsOf t) && distinct (numbers (jobsOf t)))
 
--- what the first two questions hand on: their answer and, where both are met, the sums over the jobs
+-- what the first two questions hand on: their answer and, where both are met, the sums over the jobs and what they are held
+-- against
 pub record Opens (p : Plan) (t : Table) (o : Opening) : Type 0 where
   pub answer : o .answer ≡ agreement p t
   pub sums : agreement p t ≡ Admitted → SumsOf p (jobsOf t) (o .sums)
+  pub limits : agreement p t ≡ Admitted → o .limits ≡ limitsOf p
 
 -- the place of the earliest of these jobs whose move is admitted; as many as there are jobs where there is none
 abbrev pub firstMovable : Plan → Table → List Job → ℕ

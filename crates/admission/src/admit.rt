@@ -1,8 +1,7 @@
 // The three events: the questions in their order, and the table afterwards as a new value.
 ghost use mathlib.Core.Path.{_≡_};
-ghost use mathlib.Core.Bool.{cond};
-ghost use mathlib.Core.List.{[], _∷_};
-ghost use Prim.Native.Nat.{ℕ, _≤_};
+ghost use mathlib.Core.Bool.{true, cond};
+ghost use Prim.Native.Nat.{_≤_};
 ghost use Rattle.model.specs.Limits.{maxJobs, maxTypes};
 ghost use Rattle.model.specs.Numbers.{InRange, at};
 ghost use Rattle.model.specs.Questions.{answerOf};
@@ -21,17 +20,19 @@ use crate::changes::with_job;
 use crate::changes::with_stage;
 use crate::changes::without;
 use crate::sums::judged;
-use crate::sums::limits_of;
 use crate::sums::no_stage;
 use crate::sums::place;
 use crate::sums::stages_before;
 use model::Plan;
 
-// Questions 13 to 16 of a load.
-fn load_answer(t: Table, types: u32, job: u32, kind: u32) -> Answer
-    requires { ⌜ t .count ≤ maxJobs ⌝ }
-    ensures { λ r. ⌜ r ≡ answerOf Answer.Admitted (loadQuestions types (jobsOf t) job kind) ⌝ }
+// Questions 13 to 16 of a load, asked where those before were answered 0.
+fn load_answer(first: Answer, t: Table, types: u32, job: u32, kind: u32) -> Answer
+    requires { ⌜ (isAdmitted first ≡ true → t .count ≤ maxJobs) ⌝ }
+    ensures { λ r. ⌜ r ≡ cond (isAdmitted first) (answerOf Answer.Admitted (loadQuestions types (jobsOf t) job kind)) first ⌝ }
 {
+    if !first.is_admitted() {
+        return first;
+    }
     if !in_range(job, 65535) {
         return Answer::BadNumber;
     }
@@ -48,23 +49,29 @@ fn load_answer(t: Table, types: u32, job: u32, kind: u32) -> Answer
     Answer::Admitted
 }
 
-// Questions 13 and 14 of a move, and where the job stands.
+// Questions 13 and 14 of a move, asked where those before were answered 0, and where the job stands.
 pub(crate) struct Named {
     pub answer: Answer,
     pub at: usize,
 }
 
-fn find(t: Table, job: u32) -> Named
-    requires { ⌜ t .count ≤ maxJobs ⌝ }
-    ensures { λ r. ⌜ (r .answer ≡ answerOf Answer.Admitted (nameQuestions (jobsOf t) job)) × (r .at ≡ placeOf job (jobsOf t)) ⌝ }
+fn find(first: Answer, t: Table, job: u32) -> Named
+    requires { ⌜ (isAdmitted first ≡ true → t .count ≤ maxJobs) ⌝ }
+    ensures { λ r. ⌜ (r .answer ≡ cond (isAdmitted first) (answerOf Answer.Admitted (nameQuestions (jobsOf t) job)) first) × (isAdmitted (r .answer) ≡ true → r .at ≡ placeOf job (jobsOf t)) ⌝ }
 {
-    let at = place_of(t, job);
+    if !first.is_admitted() {
+        return Named {
+            answer: first,
+            at: 0,
+        };
+    }
     if !in_range(job, 65535) {
         return Named {
             answer: Answer::BadNumber,
-            at,
+            at: 0,
         };
     }
+    let at = place_of(t, job);
     let count = t.count;
     if count <= at {
         return Named {
@@ -87,67 +94,74 @@ pub(crate) fn length_of(lengths: &[u8; 16], kind: u32) -> u32
     long(lengths[t])
 }
 
-// The next table where the answer admits it, and else the same.
-fn decided(answer: Answer, t: Table, next: Table) -> Outcome
-    ensures { λ r. ⌜ (r .answer ≡ answer) × (r .table ≡ cond (isAdmitted answer) next t) ⌝ }
-{
-    if answer.is_admitted() {
-        Outcome {
-            answer,
-            table: next,
-        }
-    } else {
-        Outcome { answer, table: t }
-    }
-}
-
 impl Table {
     pub fn load(self, p: Plan, job: u32, kind: u32) -> Outcome
         ensures { λ r. ⌜ r ≡ outcome p self (Event.Load job kind) ⌝ }
     {
         let opening = opened(p, self);
-        let first = opening.answer;
+        let agreed = opening.answer;
+        let first = load_answer(agreed, self, p.types as u32, job, kind);
         if !first.is_admitted() {
-            return decided(first, self, self);
-        }
-        let own = load_answer(self, p.types as u32, job, kind);
-        if !own.is_admitted() {
-            return decided(own, self, self);
+            return Outcome {
+                answer: first,
+                table: self,
+            };
         }
         let lengths = p.lengths;
         let before = stages_before(&lengths);
         let to = place(&before, kind, 1);
         let new = p.stages[to];
-        let last = judged(opening.sums, no_stage(), new, limits_of(p));
-        decided(last, self, with_job(self, job, kind))
+        let last = judged(opening.sums, no_stage(), new, opening.limits);
+        if !last.is_admitted() {
+            return Outcome {
+                answer: last,
+                table: self,
+            };
+        }
+        Outcome {
+            answer: last,
+            table: with_job(self, job, kind),
+        }
     }
 
     pub fn advance(self, p: Plan, job: u32) -> Outcome
         ensures { λ r. ⌜ r ≡ outcome p self (Event.Advance job) ⌝ }
     {
         let opening = opened(p, self);
-        let first = opening.answer;
+        let agreed = opening.answer;
+        let named = find(agreed, self, job);
+        let first = named.answer;
         if !first.is_admitted() {
-            return decided(first, self, self);
-        }
-        let named = find(self, job);
-        let own = named.answer;
-        if !own.is_admitted() {
-            return decided(own, self, self);
+            return Outcome {
+                answer: first,
+                table: self,
+            };
         }
         let at = named.at;
         let j = self.jobs[at];
         let lengths = p.lengths;
         if length_of(&lengths, j.kind) <= j.stage {
-            return decided(Answer::WrongStage, self, self);
+            return Outcome {
+                answer: Answer::WrongStage,
+                table: self,
+            };
         }
         let before = stages_before(&lengths);
         let from = place(&before, j.kind, j.stage);
         let to = place(&before, j.kind, j.stage + 1);
         let old = p.stages[from];
         let new = p.stages[to];
-        let last = judged(opening.sums, old, new, limits_of(p));
-        decided(last, self, with_stage(self, at, j.stage + 1))
+        let last = judged(opening.sums, old, new, opening.limits);
+        if !last.is_admitted() {
+            return Outcome {
+                answer: last,
+                table: self,
+            };
+        }
+        Outcome {
+            answer: last,
+            table: with_stage(self, at, j.stage + 1),
+        }
     }
 
     // An unload only gives back, so 18 and 19 need not be asked.
@@ -155,21 +169,28 @@ impl Table {
         ensures { λ r. ⌜ r ≡ outcome p self (Event.Unload job) ⌝ }
     {
         let opening = opened(p, self);
-        let first = opening.answer;
+        let agreed = opening.answer;
+        let named = find(agreed, self, job);
+        let first = named.answer;
         if !first.is_admitted() {
-            return decided(first, self, self);
-        }
-        let named = find(self, job);
-        let own = named.answer;
-        if !own.is_admitted() {
-            return decided(own, self, self);
+            return Outcome {
+                answer: first,
+                table: self,
+            };
         }
         let at = named.at;
         let j = self.jobs[at];
         let lengths = p.lengths;
         if length_of(&lengths, j.kind) != j.stage {
-            return decided(Answer::WrongStage, self, self);
+            return Outcome {
+                answer: Answer::WrongStage,
+                table: self,
+            };
         }
-        decided(Answer::Admitted, self, without(self, at))
+        let next = without(self, at);
+        Outcome {
+            answer: Answer::Admitted,
+            table: next,
+        }
     }
 }

@@ -7,15 +7,14 @@ ghost use lib.ListN.{drop};
 ghost use Rattle.model.specs.Limits.{maxTypes};
 ghost use Rattle.model.specs.Numbers.{inRange, each};
 ghost use Rattle.model.specs.Jobs.{numbers, distinct, fits};
-ghost use Rattle.model.specs.Soundness.{Sound};
 ghost use Rattle.admission.specs.Table.{jobsOf, isNoJob};
 ghost use Rattle.admission.specs.Events.{agreement};
 ghost use Rattle.admission.specs.Parts.{Opens, wellFormed};
 use crate::Answer;
 use crate::Table;
+use crate::sums::Limits;
 use crate::sums::Sums;
 use crate::sums::kept;
-use crate::sums::limits_of;
 use crate::sums::sums_of;
 use model::Job;
 use model::Plan;
@@ -38,14 +37,14 @@ fn none_equals(ns: &[u32], n: u32) -> bool
 fn all_distinct(ns: &[u32]) -> bool
     ensures { λ r. ⌜ r ≡ distinct (now (ns .entry)) ⌝ }
 {
-    let mut i = 0;
-    while i < ns.len() {
-        let n = ns[i];
-        let rest = i + 1;
+    let mut at = 0;
+    while at < ns.len() {
+        let n = ns[at];
+        let rest = at + 1;
         if !none_equals(&ns[rest..], n) {
             return false;
         }
-        i += 1;
+        at += 1;
     }
     true
 }
@@ -133,21 +132,6 @@ fn none_beyond(t: Table) -> bool
     true
 }
 
-// The answer to questions 11 and 12 and, where both are met, the sums over the jobs.
-pub(crate) struct Opening {
-    pub answer: Answer,
-    pub sums: Sums,
-}
-
-fn refused(answer: Answer) -> Opening
-    ensures { λ r. ⌜ r .answer ≡ answer ⌝ }
-{
-    Opening {
-        answer,
-        sums: Sums::none(),
-    }
-}
-
 // What question 12 asks of the jobs one by one, of their numbers and of what lies beyond them.
 fn well_formed(t: Table, lengths: &[u8; 16], types: u32) -> bool
     requires { ⌜ types ≤ maxTypes ⌝ }
@@ -167,33 +151,56 @@ fn well_formed(t: Table, lengths: &[u8; 16], types: u32) -> bool
     all_distinct(&numbers[..count])
 }
 
-// Question 12 of a sound plan.
-fn agreeing(p: Plan, t: Table) -> Opening
-    requires { ⌜ Sound p ⌝ }
-    ensures { λ r. ⌜ Opens p t r ⌝ }
+// The answer to questions 11 and 12 and, where both are met, the sums over the jobs and what they are held against.
+pub(crate) struct Opening {
+    pub answer: Answer,
+    pub sums: Sums,
+    pub limits: Limits,
+}
+
+fn refused(answer: Answer) -> Opening
+    ensures { λ r. ⌜ r .answer ≡ answer ⌝ }
 {
-    let lengths = p.lengths;
-    if !well_formed(t, &lengths, p.types as u32) {
-        return refused(Answer::Disagreement);
-    }
-    let sums = sums_of(p, t);
-    let limits = kept(sums, limits_of(p));
-    if !limits.is_admitted() {
-        return refused(Answer::Disagreement);
-    }
     Opening {
-        answer: Answer::Admitted,
-        sums,
+        answer,
+        sums: Sums::none(),
+        limits: Limits {
+            resources: 0,
+            rows: 0,
+            capacity: [0; 32],
+            bound: [0; 32],
+        },
     }
 }
 
+// Questions 11 and 12. The limits are copied out of the plan here, for all later questions.
 pub(crate) fn opened(p: Plan, t: Table) -> Opening
     ensures { λ r. ⌜ Opens p t r ⌝ }
 {
     if !is_sound(p) {
         return refused(Answer::UnsoundPlan);
     }
-    agreeing(p, t)
+    let lengths = p.lengths;
+    if !well_formed(t, &lengths, p.types as u32) {
+        return refused(Answer::Disagreement);
+    }
+    let sums = sums_of(p, t);
+    let capacity = p.capacity;
+    let bound = p.bound;
+    let limits = Limits {
+        resources: p.resources as usize,
+        rows: p.rows as usize,
+        capacity,
+        bound,
+    };
+    if !kept(sums, limits).is_admitted() {
+        return refused(Answer::Disagreement);
+    }
+    Opening {
+        answer: Answer::Admitted,
+        sums,
+        limits,
+    }
 }
 
 impl Table {

@@ -8,7 +8,7 @@ ghost use Rattle.model.specs.Plan.{noStage};
 ghost use Rattle.model.specs.Jobs.{Placed};
 ghost use Rattle.model.specs.Soundness.{Sound};
 ghost use Rattle.admission.specs.Table.{jobsOf};
-ghost use Rattle.admission.specs.Parts.{SumsOf, noSums, Exchangeable, Exchanged, limitsOf, lowestAbove, lowestAfter};
+ghost use Rattle.admission.specs.Parts.{SumsOf, noSums, Exchangeable, Exchanged, lowestAbove, lowestAfter};
 ghost use Rattle.admission.specs.Events.{keptAnswer};
 use crate::Answer;
 use crate::Table;
@@ -120,19 +120,6 @@ pub(crate) struct Limits {
     pub rows: usize,
     pub capacity: [u8; 32],
     pub bound: [u16; 32],
-}
-
-pub(crate) fn limits_of(p: Plan) -> Limits
-    ensures { λ r. ⌜ r ≡ limitsOf p ⌝ }
-{
-    let capacity = p.capacity;
-    let bound = p.bound;
-    Limits {
-        resources: p.resources as usize,
-        rows: p.rows as usize,
-        capacity,
-        bound,
-    }
 }
 
 // Questions 18 and 19, of the sums afterwards.

@@ -2,29 +2,21 @@
 -- list.
 use Prim.Native.Nat.{_<_}
 use native.Mathlib.Omega.{arith}
-use mathlib.Core.Bool.{true}
-use mathlib.Core.Path.{_≡_, sym, ap, _∙_}
-use lib.ListN.{length-take}
+use mathlib.Core.Path.{_≡_, sym, _∙_}
 use borrow.Author.Needs.{needs}
 use borrow.Author.Tests.{not-true, not-false}
-use Rattle.model.specs.Limits.{maxJobs}
-use Rattle.model.specs.Numbers.{InRange}
 use Rattle.model.specs.Plan.{noStage}
-use Rattle.model.specs.Questions.{answerOf}
 use Rattle.model.specs.Jobs.{loadedJob}
-use Rattle.model.specs.Soundness.{Sound}
 use Rattle.model.specs.declared.Plan.{Plan}
 use Rattle.model.proofs.Arrays.{plan-stages}
-use Rattle.admission.specs.Table.{jobsOf, Agrees}
-use Rattle.admission.specs.Events.{isAdmitted, agreement, loadQuestions}
+use Rattle.admission.specs.Events.{answer}
 use Rattle.admission.specs.declared.Table.{Table}
 use Rattle.admission.specs.declared.Event.{Event}
 use Rattle.admission.specs.declared.Event.the-variants.{Load}
-use Rattle.admission.specs.declared.Answer.the-variants.{Admitted}
-use Rattle.admission.proofs.Arrays.{table-places}
 use Rattle.admission.proofs.Totals.{Pass, load-asks, load-place, load-judge-asks, load-judge-gives}
 use Rattle.admission.proofs.After.{added-table}
-use Rattle.admission.proofs.Asking.{is-admitted, agreement-holds, first-refused, first-met, decided-outcome, refused-outcome, load-holds, load-refused, load-met}
+use Rattle.admission.proofs.Asking.{agreed-few, met-agreement, admitted-outcome, refused-outcome}
+use Rattle.admission.proofs.Loading.{Loads, load-refused, load-goes}
 use Rattle.admission.proofs.Table.load.Statement.{statement}
 use Rattle.admission.proofs.Table.load.Tie as tie
 
@@ -39,99 +31,70 @@ module _ (c : tie.Start) where
   abbrev event : Event
   event = Load (c .args .job) (c .args .kind)
 
--- where the first two questions are met
+-- where questions 11 to 16 are met
 module _ (c : tie.Else1) where
   abbrev start : tie.Start
-  start = c .before .before .before
+  start = c .before .before .before .before
 
-  met : isAdmitted (agreement (plan start) (table start)) ≡ true
-  met =
-      sym (c .before .is-admitted .ensures ∙ ap isAdmitted (c .before .before .opened .ensures .answer)) ∙ not-false _ (c .if1 .left)
-
-  both : Sound (plan start) × Agrees (plan start) (table start)
-  both = agreement-holds (plan start) (table start) met
-
--- where the load's own questions are met too
-module _ (c : tie.Else2) where
-  abbrev first : tie.Else1
-  first = c .before .before .before
-
-  abbrev entry : tie.Start
-  entry = start first
-
-  own-met : isAdmitted (answerOf Admitted (loadQuestions (plan entry .types) (jobsOf (table entry)) (entry .args .job) (entry .args .kind))) ≡ true
-  own-met = sym (c .before .is-admitted2 .ensures ∙ ap isAdmitted (c .before .before .load-answer .ensures)) ∙ not-false _ (c .if2 .left)
-
-  type : InRange (entry .args .kind) (plan entry .types)
-  type = load-holds (plan entry) (jobsOf (table entry)) (entry .args .job) (entry .args .kind) own-met .0
-
-  room : table entry .count < maxJobs
-  room =
-      omega (arith, load-holds (plan entry) (jobsOf (table entry)) (entry .args .job) (entry .args .kind) own-met .1, length-take (table entry .count) (table entry .jobs), table-places (table entry) _ (entry .good .0), both first .1 .few)
+  loads : Loads (plan start) (table start) (start .args .job) (start .args .kind)
+  loads =
+      load-goes (plan start) (table start) (start .args .job) (start .args .kind) _ _ (c .before .before .before .opened .ensures .answer) (c .before .before .load-answer .ensures) (sym (c .before .is-admitted .ensures) ∙ not-false _ (c .if1 .left))
 
 -- where the stages before each type are known
 module _ (c : tie.After-stages-before) where
-  abbrev named : tie.Else2
+  abbrev named : tie.Else1
   named = c .before .before .before
 
-  pass : Pass (plan (entry named)) (table (entry named)) (c .stages-before .result)
+  pass : Pass (plan (start named)) (table (start named)) (c .stages-before .result)
   pass =
-      let s = entry named in
-      let h = both (first named) in
+      let l = loads named in
       record {
-        sound = h .0;
-        placed = h .1 .jobs .placed;
-        few = h .1 .few;
-        jobs = table-places (table s) _ (s .good .0);
-        stages = plan-stages (plan s) _ (s .good .1 .0);
+        sound = l .sound;
+        placed = l .agrees .jobs .placed;
+        few = l .agrees .few;
+        jobs = l .agrees .places;
+        stages = plan-stages (plan (start named)) _ (start named .good .1 .0);
         starts = c .stages-before .ensures;
       }
 
 within : (c : tie.After-place) → c .place .result < 128
 within c =
     let h = c .before .before in
-    let s = entry (named h) in
-    load-place (pass h) (s .args .job) (s .args .kind) (type (named h)) (c .place .result) (c .place .ensures)
+    let s = start (named h) in
+    load-place (pass h) (s .args .job) (s .args .kind) (loads (named h) .type) (c .place .result) (c .place .ensures)
+
+-- what the sums say
+module _ (c : tie.After-judged) where
+  abbrev asked : tie.After-stages-before
+  asked = c .before .before .before .before .before
+
+  says : let s = start (named asked) in answer (plan s) (table s) (event s) ≡ c .judged .result
+  says =
+      let n = named asked in
+      let s = start n in
+      let at = c .before .before .before .place in
+      let none = c .before .no-stage in
+      let o = n .before .before .before .opened in
+      let both = met-agreement (plan s) (table s) (loads n .sound) (loads n .agrees) in
+      loads n .answers
+      ∙ sym (c .judged .ensures ∙ load-judge-gives (pass asked) (s .args .job) (s .args .kind) (loads n .type) (at .result) (at .ensures) (none .result) (none .ensures) _ (o .result .sums) (o .ensures .sums both) (o .result .limits) (o .ensures .limits both))
 
 opened-requires : tie.Need-opened-requires
 opened-requires c κs = tt
-
-is-admitted-requires : tie.Need-is-admitted-requires
-is-admitted-requires c κs = tt
-
-decided-requires : tie.Need-decided-requires
-decided-requires c κs = tt
-
-returns : tie.Need-returns
-returns c =
-    let h = c .before in
-    let s = h .before .before .before in
-    let o = h .before .before .opened in
-    let refused = sym (h .before .is-admitted .ensures) ∙ not-true _ (h .if1 .taken) in
-    refused-outcome (plan s) (table s) (event s) (o .result .answer) _
-    (first-refused (plan s) (table s) (event s) (sym (ap isAdmitted (o .ensures .answer)) ∙ refused) ∙ sym (o .ensures .answer)) refused (c .decided .ensures)
 
 cast-load-answer : tie.Need-cast-load-answer
 cast-load-answer c = search needs
 
 load-answer-requires : tie.Need-load-answer-requires
-load-answer-requires c κs = both c .1 .few
+load-answer-requires c κs = agreed-few (plan (c .before)) (table (c .before)) _ (c .opened .ensures .answer)
 
-is-admitted-requires-2 : tie.Need-is-admitted-requires-2
-is-admitted-requires-2 c κs = tt
+is-admitted-requires : tie.Need-is-admitted-requires
+is-admitted-requires c κs = tt
 
-decided-requires-2 : tie.Need-decided-requires-2
-decided-requires-2 c κs = tt
-
-returns-2 : tie.Need-returns-2
-returns-2 c =
-    let h = c .before in
-    let a = h .before .before .before in
-    let s = start a in
-    let own = h .before .before .load-answer in
-    let refused = sym (h .before .is-admitted2 .ensures) ∙ not-true _ (h .if2 .taken) in
-    refused-outcome (plan s) (table s) (event s) (own .result) _
-    (first-met (plan s) (table s) (event s) (met a) ∙ load-refused (plan s) (jobsOf (table s)) (s .args .job) (s .args .kind) (sym (ap isAdmitted (own .ensures)) ∙ refused) ∙ sym (own .ensures)) refused (c .decided2 .ensures)
+returns : tie.Need-returns
+returns c =
+    let s = c .before .before .before .before in
+    load-refused (plan s) (table s) (s .args .job) (s .args .kind) _ _ (c .before .before .before .opened .ensures .answer) (c .before .before .load-answer .ensures) (sym (c .before .is-admitted .ensures) ∙ not-true _ (c .if1 .taken))
 
 stages-before-requires : tie.Need-stages-before-requires
 stages-before-requires c κs = tt
@@ -139,8 +102,8 @@ stages-before-requires c κs = tt
 place-requires : tie.Need-place-requires
 place-requires c κs =
     let h = c .before in
-    let s = entry (named h) in
-    load-asks (pass h) (s .args .job) (s .args .kind) (type (named h))
+    let s = start (named h) in
+    load-asks (pass h) (s .args .job) (s .args .kind) (loads (named h) .type)
 
 mul-new : tie.Need-mul-new
 mul-new c = omega (arith, within c)
@@ -151,59 +114,54 @@ element-copy-out-new c = within c
 no-stage-requires : tie.Need-no-stage-requires
 no-stage-requires c κs = tt
 
-limits-of-requires : tie.Need-limits-of-requires
-limits-of-requires c κs = tt
-
 judged-requires : tie.Need-judged-requires
 judged-requires c κs =
-    let h = c .before .before .before .before .before in
-    let s = entry (named h) in
-    let at = c .before .before .before .place in
-    let none = c .before .no-stage in
-    let o = first (named h) .before .before .opened in
-    load-judge-asks (pass h) (s .args .job) (s .args .kind) (type (named h)) (at .result) (at .ensures) (none .result) (none .ensures) noStage (o .result .sums) (o .ensures .sums (is-admitted _ (met (first (named h))))) (c .limits-of .result) (c .limits-of .ensures)
+    let h = c .before .before .before .before in
+    let n = named h in
+    let s = start n in
+    let at = c .before .before .place in
+    let none = c .no-stage in
+    let o = n .before .before .before .opened in
+    let both = met-agreement (plan s) (table s) (loads n .sound) (loads n .agrees) in
+    load-judge-asks (pass h) (s .args .job) (s .args .kind) (loads n .type) (at .result) (at .ensures) (none .result) (none .ensures) noStage (o .result .sums) (o .ensures .sums both) (o .result .limits) (o .ensures .limits both)
+
+is-admitted-requires-2 : tie.Need-is-admitted-requires-2
+is-admitted-requires-2 c κs = tt
+
+returns-2 : tie.Need-returns-2
+returns-2 c =
+    let h = c .before .before in
+    let s = start (named (asked h)) in
+    refused-outcome (plan s) (table s) (event s) (h .judged .result) (says h) (sym (c .before .is-admitted2 .ensures) ∙ not-true _ (c .if2 .taken))
 
 with-job-requires : tie.Need-with-job-requires
-with-job-requires c κs = room (named (c .before .before .before .before .before .before))
-
-decided-requires-3 : tie.Need-decided-requires-3
-decided-requires-3 c κs = tt
+with-job-requires c κs = loads (named (asked (c .before .before))) .room
 
 returns-3 : tie.Need-returns-3
 returns-3 c =
-    let h = c .before .before .before .before .before .before .before .before in
-    let n = named h in
-    let s = entry n in
-    let at = c .before .before .before .before .before .before .place in
-    let none = c .before .before .before .before .no-stage in
-    let limits = c .before .before .before .limits-of in
-    let last = c .before .before .judged in
-    let next = c .before .with-job in
-    let o = first n .before .before .opened in
-    decided-outcome (plan s) (table s) (event s) (last .result) (next .result) _
-    (first-met (plan s) (table s) (event s) (met (first n)) ∙ load-met (plan s) (jobsOf (table s)) (s .args .job) (s .args .kind) (own-met n) ∙ sym (last .ensures ∙ load-judge-gives (pass h) (s .args .job) (s .args .kind) (type n) (at .result) (at .ensures) (none .result) (none .ensures) _ (o .result .sums) (o .ensures .sums (is-admitted _ (met (first n)))) (limits .result) (limits .ensures)))
-    (λ _. added-table (plan s) (table s) (both (first n) .1) (next .result) (loadedJob (s .args .job) (s .args .kind)) (room n) (next .ensures)) (c .decided3 .ensures)
+    let h = c .before .before .before in
+    let n = named (asked h) in
+    let s = start n in
+    let next = c .with-job in
+    admitted-outcome (plan s) (table s) (event s) (h .judged .result) (says h) (sym (c .before .before .is-admitted2 .ensures) ∙ not-false _ (c .before .if2 .left)) (next .result)
+    (added-table (plan s) (table s) (loads n .agrees) (next .result) (loadedJob (s .args .job) (s .args .kind)) (loads n .room) (next .ensures))
 
 pub load-spec : {M : Type 1} → statement M
 load-spec =
     tie.close
     (tie.spec
     opened-requires
-    is-admitted-requires
-    decided-requires
-    returns
     cast-load-answer
     load-answer-requires
-    is-admitted-requires-2
-    decided-requires-2
-    returns-2
+    is-admitted-requires
+    returns
     stages-before-requires
     place-requires
     mul-new
     element-copy-out-new
     no-stage-requires
-    limits-of-requires
     judged-requires
+    is-admitted-requires-2
+    returns-2
     with-job-requires
-    decided-requires-3
     returns-3)

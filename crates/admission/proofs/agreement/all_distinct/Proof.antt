@@ -15,10 +15,10 @@ use Rattle.admission.proofs.agreement.all_distinct.Statement.{statement
 use Rattle.admission.proofs.agreement.all_distinct.Tie as tie
 
 abbrev Inv-loop : tie.InvT-loop
-Inv-loop ns i₀ i = distinct ns ≡ distinct (drop i ns)
+Inv-loop ns at₀ at = distinct ns ≡ distinct (drop at ns)
 
 abbrev μ-loop : tie.MeasureT-loop
-μ-loop ns i₀ i = length ns - i
+μ-loop ns at₀ at = length ns - at
 
 loop-holds : tie.Need-loop-holds Inv-loop μ-loop
 loop-holds c = refl
@@ -48,20 +48,20 @@ none-equals-requires : tie.Need-none-equals-requires Inv-loop μ-loop
 none-equals-requires c κs = tt
 
 -- the part lent is all that stands after place i
-rest-differs : (c : tie.After-none-equals Inv-loop μ-loop) → let ns = c .before .before .before .before .before .before .args .ns .now in let i = c .before .before .before .before .loop .i in each (λ (m : ℕ). not (eqb m (getD ns i 0))) (drop (i + 1) ns) ≡ c .none-equals .result
+rest-differs : (c : tie.After-none-equals Inv-loop μ-loop) → let ns = c .before .before .before .before .before .before .args .ns .now in let i = c .before .before .before .before .loop .at in each (λ (m : ℕ). not (eqb m (getD ns i 0))) (drop (i + 1) ns) ≡ c .none-equals .result
 rest-differs c =
     let ns = c .before .before .before .before .before .before .args .ns .now in
-    let i = c .before .before .before .before .loop .i in
+    let i = c .before .before .before .before .loop .at in
     sym (c .none-equals .ensures ∙ ap (each (λ (m : ℕ). not (eqb m (getD ns i 0)))) (take-all (length ns - (i + 1)) (drop (i + 1) ns) (omega (arith, length-drop (i + 1) ns))))
 
 returns : tie.Need-returns Inv-loop μ-loop
 returns c =
     let l = c .before .before .before .before .before .loop in
     let ns = c .before .before .before .before .before .before .before .args .ns .now in
-    sym (l .inv ∙ rw (drop-cons ns (l .i) 0 (omega arith), ← add-one (l .i), rest-differs (c .before), not-true (c .before .none-equals .result) (c .if1 .taken)) refl)
+    sym (l .inv ∙ rw (drop-cons ns (l .at) 0 (omega arith), ← add-one (l .at), rest-differs (c .before), not-true (c .before .none-equals .result) (c .if1 .taken)) refl)
 
-add-i : tie.Need-add-i Inv-loop μ-loop
-add-i c = search needs
+add-at : tie.Need-add-at Inv-loop μ-loop
+add-at c = search needs
 
 loop-less : tie.Need-loop-less Inv-loop μ-loop
 loop-less c = search needs
@@ -70,12 +70,12 @@ loop-again : tie.Need-loop-again Inv-loop μ-loop
 loop-again c =
     let l = c .before .before .before .before .before .loop in
     let ns = c .before .before .before .before .before .before .before .args .ns .now in
-    l .inv ∙ rw (drop-cons ns (l .i) 0 (omega arith), ← add-one (l .i), rest-differs (c .before), not-false (c .before .none-equals .result) (c .if1 .left)) (rw add-one refl)
+    l .inv ∙ rw (drop-cons ns (l .at) 0 (omega arith), ← add-one (l .at), rest-differs (c .before), not-false (c .before .none-equals .result) (c .if1 .left)) (rw add-one refl)
 
 returns-2 : tie.Need-returns-2 Inv-loop μ-loop
 returns-2 c =
     let l = c .before .loop in
-    sym (l .inv ∙ rw (drop-of-length-le (c .before .before .before .args .ns .now) {i = l .i} (omega arith)) refl)
+    sym (l .inv ∙ rw (drop-of-length-le (c .before .before .before .args .ns .now) {i = l .at} (omega arith)) refl)
 
 pub all-distinct-spec : {M : Type 1} → statement M
 all-distinct-spec =
@@ -93,7 +93,7 @@ all-distinct-spec =
     part-none-equals-end
     none-equals-requires
     returns
-    add-i
+    add-at
     loop-less
     loop-again
     returns-2)

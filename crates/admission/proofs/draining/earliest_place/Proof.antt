@@ -22,11 +22,11 @@ use Rattle.admission.proofs.draining.earliest_place.Statement.{statemen
 use Rattle.admission.proofs.draining.earliest_place.Tie as tie
 
 abbrev Inv-loop : tie.InvT-loop
-Inv-loop p t sums limits lengths before count i₀ i =
+Inv-loop limits p t sums lengths before count i₀ i =
     (limits ≡ limitsOf p) × SumsOf p (jobsOf t) sums × Pass p t before × Agrees p t × (i ≤ count) × (firstMovable p t (jobsOf t) ≡ i + firstMovable p t (drop i (jobsOf t)))
 
 abbrev μ-loop : tie.MeasureT-loop
-μ-loop p t sums limits lengths before count i₀ i = count - i
+μ-loop limits p t sums lengths before count i₀ i = count - i
 
 -- at a job that is not at its last stage
 module _ (c : tie.Else1 Inv-loop μ-loop) where
@@ -34,10 +34,10 @@ module _ (c : tie.Else1 Inv-loop μ-loop) where
   at-loop = c .before .before .before .before .before .before
 
   abbrev plan : Plan
-  plan = c .before .before .before .before .before .before .before .before .before .before .before .before .args .t1
+  plan = c .before .before .before .before .before .before .before .before .before .before .before .args .t1
 
   abbrev table : Table
-  table = c .before .before .before .before .before .before .before .before .before .before .before .before .args .t2
+  table = c .before .before .before .before .before .before .before .before .before .before .before .args .t2
 
   abbrev i : ℕ
   i = at-loop .loop .i
@@ -76,17 +76,14 @@ tried c =
 sums-of-requires : tie.Need-sums-of-requires Inv-loop μ-loop
 sums-of-requires c κs = (c .pre .0, c .pre .1 .jobs .placed, c .pre .1 .few)
 
-limits-of-requires : tie.Need-limits-of-requires Inv-loop μ-loop
-limits-of-requires c κs = tt
-
 stages-before-requires : tie.Need-stages-before-requires Inv-loop μ-loop
 stages-before-requires c κs = tt
 
 loop-holds : tie.Need-loop-holds Inv-loop μ-loop
 loop-holds c =
-    let s = c .before .before .before .before .before in (
-      c .before .before .before .limits-of .ensures,
-      c .before .before .before .before .sums-of .ensures,
+    let s = c .before .before .before .before in (
+      s .pre .2,
+      c .before .before .before .sums-of .ensures,
       record {
         sound = s .pre .0;
         placed = s .pre .1 .jobs .placed;
@@ -114,7 +111,7 @@ length-of-requires c κs =
 returns : tie.Need-returns Inv-loop μ-loop
 returns c =
     let l = c .before .before .before .before .before .before .loop in
-    let a = c .before .before .before .before .before .before .before .before .before .before .before .before .args in
+    let a = c .before .before .before .before .before .before .before .before .before .before .before .args in
     let low : l .i < a .t2 .count = omega arith in
     let last : lengthOf (a .t1) (getD (a .t2 .jobs) (l .i) noJob .kind) ≡ getD (a .t2 .jobs) (l .i) noJob .stage = sym (c .before .before .length-of .ensures) ∙ c .if1 .taken in
     let stops : firstMovable (a .t1) (a .t2) (drop (l .i) (jobsOf (a .t2))) ≡ 0 =
@@ -182,7 +179,7 @@ loop-again c =
 returns-3 : tie.Need-returns-3 Inv-loop μ-loop
 returns-3 c =
     let l = c .before .loop in
-    let a = c .before .before .before .before .before .before .before .args in
+    let a = c .before .before .before .before .before .before .args in
     let agrees = l .inv .3 in
     omega (arith, l .inv .5, movable-none (a .t1) (a .t2) (l .i) (omega (arith, count-jobs (a .t2) (agrees .places) (agrees .few) 0 _ refl)))
 
@@ -193,7 +190,6 @@ earliest-place-spec =
     Inv-loop
     μ-loop
     sums-of-requires
-    limits-of-requires
     stages-before-requires
     loop-holds
     mul-j
