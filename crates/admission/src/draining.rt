@@ -53,7 +53,8 @@ fn earliest_place(p: Plan, t: Table, limits: Limits) -> usize
     i
 }
 
-// The table after the move of the job at this place: an advance, or an unload at the last stage.
+// The table after the move of the job at this place, under any plan with these stages per type: an advance, or an unload at
+// the last stage.
 fn moved(t: Table, at: usize, lengths: &[u8; 16]) -> Table
     requires { ⌜ (at < t .count) × (t .count ≤ maxJobs) × InRange (getD (t .jobs) at noJob .kind) maxTypes × (getD (t .jobs) at noJob .stage ≤ maxStages) ⌝ }
     ensures { λ r. ⌜ ((p : Plan) → Sound p → Agrees p t → p .lengths ≡ now (lengths .entry) → r ≡ tableOf (jobsAfter p (jobsOf t) (moveOf p (getD (t .jobs) at noJob)))) ⌝ }
