@@ -67,11 +67,11 @@ module _ (p : Plan) (t : Table) (n : ℕ) where
     pub unload-refused : isAdmitted a ≡ false → record { answer = a; table = t } ≡ outcome p t (Unload n)
     unload-refused h = entry-refused p t (Unload n) (nameQuestions (jobsOf t) n) unload-rest refl (name-refuses (jobsOf t) n) first a opens asked h
 
-    pub stands : (place : ℕ) → (isAdmitted a ≡ true → place ≡ placeOf n (jobsOf t)) → isAdmitted a ≡ true → Stands p t n place
-    stands place found h =
+    pub move-stands : (place : ℕ) → place ≡ placeOf n (jobsOf t) → isAdmitted a ≡ true → Stands p t n place
+    move-stands place found h =
         let both = entry-met p t (Unload n) (nameQuestions (jobsOf t) n) unload-rest refl (name-refuses (jobsOf t) n) first a opens asked h in
         let plan = agreement-holds p t (both .0) in
-        record { sound = plan .0; agrees = plan .1; met = both .1; found = found h }
+        record { sound = plan .0; agrees = plan .1; met = both .1; found = found }
 
 module _ {p : Plan} {t : Table} {n place : ℕ} (s : Stands p t n place) where
   active : isActive n (jobsOf t) ≡ true
@@ -94,7 +94,7 @@ module _ {p : Plan} {t : Table} {n place : ℕ} (s : Stands p t n place) where
   pub here-typed : InRange (here .kind) maxTypes
   here-typed = omega (arith, here-placed .0, s .sound .types)
 
-  named-job : jobOf n (jobsOf t) ≡ here
+  pub named-job : jobOf n (jobsOf t) ≡ here
   named-job = place-job n (jobsOf t) ∙ ap (λ i. getD (jobsOf t) i noJob) (sym (s .found)) ∙ getD-take (t .count) (t .jobs) place noJob place-low
 
   pub advanced-list : advanced p n (jobsOf t) ≡ set (jobsOf t) place (advancedJob p here)

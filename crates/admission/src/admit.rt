@@ -5,6 +5,7 @@ ghost use Prim.Native.Nat.{_≤_};
 ghost use Rattle.model.specs.Limits.{maxJobs, maxTypes};
 ghost use Rattle.model.specs.Numbers.{InRange, at};
 ghost use Rattle.model.specs.Questions.{answerOf};
+ghost use Rattle.model.specs.Jobs.{jobOf};
 ghost use Rattle.admission.specs.Table.{jobsOf};
 ghost use Rattle.admission.specs.Events.{isAdmitted, loadQuestions, nameQuestions, outcome};
 ghost use Rattle.admission.specs.Parts.{placeOf};
@@ -15,7 +16,9 @@ use crate::Table;
 use crate::agreement::in_range;
 use crate::agreement::long;
 use crate::agreement::opened;
-use crate::changes::place_of;
+use crate::changes::Found;
+use crate::changes::look_up;
+use crate::changes::no_job;
 use crate::changes::with_job;
 use crate::changes::with_stage;
 use crate::changes::without;
@@ -37,7 +40,8 @@ fn load_answer(first: Answer, t: Table, types: u32, job: u32, kind: u32) -> Answ
         return Answer::BadNumber;
     }
     let count = t.count;
-    if place_of(t, job) < count {
+    let found = look_up(t, job);
+    if found.at < count {
         return Answer::WrongActivity;
     }
     if !in_range(kind, types) {
@@ -52,36 +56,40 @@ fn load_answer(first: Answer, t: Table, types: u32, job: u32, kind: u32) -> Answ
 // Questions 13 and 14 of a move, asked where those before were answered 0, and where the job stands.
 pub(crate) struct Named {
     pub answer: Answer,
-    pub at: usize,
+    pub found: Found,
 }
 
 fn find(first: Answer, t: Table, job: u32) -> Named
     requires { ⌜ (isAdmitted first ≡ true → t .count ≤ maxJobs) ⌝ }
-    ensures { λ r. ⌜ (r .answer ≡ cond (isAdmitted first) (answerOf Answer.Admitted (nameQuestions (jobsOf t) job)) first) × (isAdmitted (r .answer) ≡ true → r .at ≡ placeOf job (jobsOf t)) ⌝ }
+    ensures { λ r. ⌜ (r .answer ≡ cond (isAdmitted first) (answerOf Answer.Admitted (nameQuestions (jobsOf t) job)) first) × (isAdmitted (r .answer) ≡ true → (r .found .at ≡ placeOf job (jobsOf t)) × (r .found .job ≡ jobOf job (jobsOf t))) ⌝ }
 {
     if !first.is_admitted() {
+        let found = Found {
+            at: 0,
+            job: no_job(),
+        };
         return Named {
             answer: first,
-            at: 0,
+            found,
         };
     }
+    let found = look_up(t, job);
     if !in_range(job, 65535) {
         return Named {
             answer: Answer::BadNumber,
-            at: 0,
+            found,
         };
     }
-    let at = place_of(t, job);
     let count = t.count;
-    if count <= at {
+    if count <= found.at {
         return Named {
             answer: Answer::WrongActivity,
-            at,
+            found,
         };
     }
     Named {
         answer: Answer::Admitted,
-        at,
+        found,
     }
 }
 
@@ -137,8 +145,8 @@ impl Table {
                 table: self,
             };
         }
-        let at = named.at;
-        let j = self.jobs[at];
+        let found = named.found;
+        let j = found.job;
         let lengths = p.lengths;
         if length_of(&lengths, j.kind) <= j.stage {
             return Outcome {
@@ -160,7 +168,7 @@ impl Table {
         }
         Outcome {
             answer: last,
-            table: with_stage(self, at, j.stage + 1),
+            table: with_stage(self, found.at, j.stage + 1),
         }
     }
 
@@ -178,8 +186,8 @@ impl Table {
                 table: self,
             };
         }
-        let at = named.at;
-        let j = self.jobs[at];
+        let found = named.found;
+        let j = found.job;
         let lengths = p.lengths;
         if length_of(&lengths, j.kind) != j.stage {
             return Outcome {
@@ -187,7 +195,7 @@ impl Table {
                 table: self,
             };
         }
-        let next = without(self, at);
+        let next = without(self, found.at);
         Outcome {
             answer: Answer::Admitted,
             table: next,

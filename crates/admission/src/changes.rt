@@ -1,29 +1,47 @@
 // Where a job stands in a table, and the table after a job is added, moved on or taken out.
 ghost use mathlib.Core.Path.{_≡_};
 ghost use mathlib.Core.List.{[], _∷_, _++_};
-ghost use Prim.Native.Nat.{ℕ, _+_, _≤_, _<_};
+ghost use Prim.Native.Nat.{_+_, _≤_, _<_};
 ghost use lib.ListN.{getD, set, take, drop};
-ghost use Rattle.model.specs.Jobs.{noJob, loadedJob};
+ghost use Rattle.model.specs.Jobs.{noJob, jobOf, loadedJob};
 ghost use Rattle.admission.specs.Table.{jobsOf};
 ghost use Rattle.admission.specs.Parts.{placeOf};
 use crate::Table;
 use model::Job;
 
-// The place of the job with this number, counted from 0; the count where none has it.
-pub(crate) fn place_of(t: Table, job: u32) -> usize
+pub(crate) fn no_job() -> Job
+    ensures { λ r. ⌜ r ≡ noJob ⌝ }
+{
+    Job {
+        number: 0,
+        kind: 0,
+        stage: 0,
+    }
+}
+
+// Where the job with a number stands, counted from 0, and the job; the count and no job where none has the number.
+pub(crate) struct Found {
+    pub at: usize,
+    pub job: Job,
+}
+
+pub(crate) fn look_up(t: Table, number: u32) -> Found
     requires { ⌜ t .count ≤ 64 ⌝ }
-    ensures { λ r. ⌜ r ≡ placeOf job (jobsOf t) ⌝ }
+    ensures { λ r. ⌜ (r .at ≡ placeOf number (jobsOf t)) × (r .job ≡ jobOf number (jobsOf t)) ⌝ }
 {
     let count = t.count;
     let mut i = 0;
     while i < count {
         let j = t.jobs[i];
-        if j.number == job {
-            return i;
+        if j.number == number {
+            return Found { at: i, job: j };
         }
         i += 1;
     }
-    i
+    Found {
+        at: i,
+        job: no_job(),
+    }
 }
 
 // A job more, last in order.
@@ -70,11 +88,7 @@ pub(crate) fn without(t: Table, at: usize) -> Table
         next.jobs[i] = j;
         i += 1;
     }
-    next.jobs[63] = Job {
-        number: 0,
-        kind: 0,
-        stage: 0,
-    };
+    next.jobs[63] = no_job();
     next.count = t.count - 1;
     next
 }

@@ -1,24 +1,32 @@
 -- A job at its last stage goes: no sum grows.
-use Prim.Native.Nat.{ℕ}
-use native.Mathlib.Omega.{arith}
-use mathlib.Core.Path.{refl, sym, ap, _∙_}
+use mathlib.Core.Bool.{true}
+use mathlib.Core.Logic.{_≢_}
+use mathlib.Core.Path.{_≡_, refl, sym, ap, subst, subst⁻¹, _∙_}
+use lib.ListN.{getD}
 use borrow.Author.Tests.{not-true, not-false}
+use Rattle.model.specs.Limits.{maxTypes}
+use Rattle.model.specs.Numbers.{InRange}
+use Rattle.model.specs.Plan.{lengthOf}
+use Rattle.model.specs.Jobs.{noJob}
 use Rattle.model.specs.declared.Plan.{Plan}
+use Rattle.model.specs.declared.Job.{Job}
 use Rattle.admission.specs.Table.{tableOf}
+use Rattle.admission.specs.Events.{isAdmitted}
 use Rattle.admission.specs.declared.Table.{Table}
 use Rattle.admission.specs.declared.Event.{Event}
 use Rattle.admission.specs.declared.Event.the-variants.{Unload}
 use Rattle.admission.specs.declared.Answer.the-variants.{Admitted, WrongStage}
+use Rattle.admission.specs.declared.changes.Found.{Found}
 use Rattle.admission.proofs.After.{removed-table}
 use Rattle.admission.proofs.Asking.{agreed-few, admitted-outcome, refused-outcome}
-use Rattle.admission.proofs.Named.{Stands, stands, unload-refused, place-low, place-below, here-typed, unloaded-list, unload-stops, unload-goes}
+use Rattle.admission.proofs.Named.{Stands, move-stands, unload-refused, place-low, named-job, here-typed, unloaded-list, unload-stops, unload-goes}
 use Rattle.admission.proofs.Table.unload.Statement.{statement}
 use Rattle.admission.proofs.Table.unload.Tie as tie
 
 -- what is asked
 module _ (c : tie.Start) where
   abbrev table : Table
-  table = c .args .t1
+  table = c .args .self
 
   abbrev plan : Plan
   plan = c .args .p
@@ -31,12 +39,18 @@ module _ (c : tie.Else1) where
   abbrev start : tie.Start
   start = c .before .before .before .before
 
-  abbrev at : ℕ
-  at = c .before .before .find .result .at
+  abbrev found : Found
+  found = c .before .before .find .result .found
 
-  here : Stands (plan start) (table start) (start .args .job) at
-  here =
-      stands (plan start) (table start) (start .args .job) _ _ (c .before .before .before .opened .ensures .answer) (c .before .before .find .ensures .0) at (c .before .before .find .ensures .1) (sym (c .before .is-admitted .ensures) ∙ not-false _ (c .if1 .left))
+  answered : isAdmitted (c .before .before .find .result .answer) ≡ true
+  answered = sym (c .before .is-admitted .ensures) ∙ not-false _ (c .if1 .left)
+
+  stands : Stands (plan start) (table start) (start .args .job) (found .at)
+  stands =
+      move-stands (plan start) (table start) (start .args .job) _ _ (c .before .before .before .opened .ensures .answer) (c .before .before .find .ensures .0) (found .at) (c .before .before .find .ensures .1 answered .0) answered
+
+  job-there : found .job ≡ getD (table start .jobs) (found .at) noJob
+  job-there = c .before .before .find .ensures .1 answered .1 ∙ named-job stands
 
 opened-requires : tie.Need-opened-requires
 opened-requires c κs = tt
@@ -52,31 +66,27 @@ returns c =
     let s = c .before .before .before .before in
     unload-refused (plan s) (table s) (s .args .job) _ _ (c .before .before .before .opened .ensures .answer) (c .before .before .find .ensures .0) (sym (c .before .is-admitted .ensures) ∙ not-true _ (c .if1 .taken))
 
-mul-j : tie.Need-mul-j
-mul-j c = omega (arith, place-below (here c))
-
-element-copy-out-j : tie.Need-element-copy-out-j
-element-copy-out-j c = place-below (here c)
-
 length-of-requires : tie.Need-length-of-requires
-length-of-requires c κs = here-typed (here (c .before .before .before))
+length-of-requires c κs =
+    let n = c .before .before .before .before in
+    subst⁻¹ (λ (j : Job). InRange (j .kind) maxTypes) (job-there n) (here-typed (stands n))
 
 returns-2 : tie.Need-returns-2
 returns-2 c =
-    let n = c .before .before .before .before .before .before in
+    let n = c .before .before .before .before .before .before .before in
     let s = start n in
-    refused-outcome (plan s) (table s) (event s) WrongStage (unload-stops (here n) (λ e. c .if2 .taken (c .before .before .length-of .ensures ∙ e))) refl
+    refused-outcome (plan s) (table s) (event s) WrongStage (unload-stops (stands n) (subst (λ (j : Job). lengthOf (plan s) (j .kind) ≢ j .stage) (job-there n) (λ e. c .if2 .taken (c .before .before .length-of .ensures ∙ e)))) refl
 
 without-requires : tie.Need-without-requires
-without-requires c κs = let h = here (c .before .before .before .before .before .before) in (place-low h, h .agrees .few)
+without-requires c κs = let h = stands (c .before .before .before .before .before .before .before) in (place-low h, h .agrees .few)
 
 returns-3 : tie.Need-returns-3
 returns-3 c =
-    let n = c .before .before .before .before .before .before .before in
+    let n = c .before .before .before .before .before .before .before .before in
     let s = start n in
     let next = c .without in
-    admitted-outcome (plan s) (table s) (event s) Admitted (unload-goes (here n) (sym (c .before .before .before .length-of .ensures) ∙ c .before .if2 .left)) refl (next .result)
-    (removed-table (plan s) (table s) (here n .agrees) (next .result) (at n) (place-low (here n)) (next .ensures) ∙ ap tableOf (sym (unloaded-list (here n))))
+    admitted-outcome (plan s) (table s) (event s) Admitted (unload-goes (stands n) (subst (λ (j : Job). lengthOf (plan s) (j .kind) ≡ j .stage) (job-there n) (sym (c .before .before .before .length-of .ensures) ∙ c .before .if2 .left))) refl (next .result)
+    (removed-table (plan s) (table s) (stands n .agrees) (next .result) (found n .at) (place-low (stands n)) (next .ensures) ∙ ap tableOf (sym (unloaded-list (stands n))))
 
 pub unload-spec : {M : Type 1} → statement M
 unload-spec =
@@ -86,8 +96,6 @@ unload-spec =
     find-requires
     is-admitted-requires
     returns
-    mul-j
-    element-copy-out-j
     length-of-requires
     returns-2
     without-requires

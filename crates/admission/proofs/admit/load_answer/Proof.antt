@@ -31,15 +31,15 @@ numbered c = sym (c .before .in-range .ensures) ∙ not-false _ (c .if2 .left)
 
 module _ (c : tie.Else3) where
   abbrev first : tie.Else1
-  first = c .before .before .before .before
+  first = c .before .before .before .before .before
 
   idle : isActive (start first .args .job) (jobsOf (start first .args .t)) ≡ false
   idle =
-      inactive (start first .args .t) (table-places (start first .args .t) _ (start first .good .1 .0)) (few first) (start first .args .job) (c .before .place-of .result) (c .before .place-of .ensures) (c .if3 .left)
+      inactive (start first .args .t) (table-places (start first .args .t) _ (start first .good .1 .0)) (few first) (start first .args .job) (c .before .before .look-up .result .at) (c .before .before .look-up .ensures .0) (c .if3 .left)
 
   counted : length (jobsOf (start first .args .t)) ≡ start first .args .t .count
   counted =
-      count-jobs (start first .args .t) (table-places (start first .args .t) _ (start first .good .1 .0)) (few first) (start first .args .job) (c .before .place-of .result) (c .before .place-of .ensures)
+      count-jobs (start first .args .t) (table-places (start first .args .t) _ (start first .good .1 .0)) (few first) (start first .args .job) (c .before .before .look-up .result .at) (c .before .before .look-up .ensures .0)
 
 typed : (c : tie.Else4) → let a = start (first (c .before .before)) .args in inRange (a .kind) (a .types) ≡ true
 typed c = sym (c .before .in-range2 .ensures) ∙ not-false _ (c .if4 .left)
@@ -56,15 +56,15 @@ in-range-requires c κs = tt
 returns-2 : tie.Need-returns-2
 returns-2 c = rw (met (c .before .before), sym (c .before .in-range .ensures) ∙ not-true _ (c .if2 .taken)) refl
 
-place-of-requires : tie.Need-place-of-requires
-place-of-requires c κs = few (c .before .before)
+look-up-requires : tie.Need-look-up-requires
+look-up-requires c κs = few (c .before .before)
 
 returns-3 : tie.Need-returns-3
 returns-3 c =
-    let h = c .before .before .before .before in
+    let h = c .before .before .before .before .before in
     let s = start h in
-    let at = c .before .place-of in
-    rw (met h, numbered (c .before .before), active-there (s .args .t) (table-places (s .args .t) _ (s .good .1 .0)) (few h) (s .args .job) (at .result) (at .ensures) (c .if3 .taken)) refl
+    let at = c .before .before .look-up in
+    rw (met h, numbered (c .before .before .before), active-there (s .args .t) (table-places (s .args .t) _ (s .good .1 .0)) (few h) (s .args .job) (at .result .at) (at .ensures .0) (c .if3 .taken)) refl
 
 in-range-requires-2 : tie.Need-in-range-requires-2
 in-range-requires-2 c κs = tt
@@ -72,17 +72,17 @@ in-range-requires-2 c κs = tt
 returns-4 : tie.Need-returns-4
 returns-4 c =
     let i = c .before .before in
-    rw (met (first i), numbered (i .before .before), idle i, sym (c .before .in-range2 .ensures) ∙ not-true _ (c .if4 .taken)) refl
+    rw (met (first i), numbered (i .before .before .before), idle i, sym (c .before .in-range2 .ensures) ∙ not-true _ (c .if4 .taken)) refl
 
 returns-5 : tie.Need-returns-5
 returns-5 c =
     let i = c .before .before .before in
-    rw (met (first i), numbered (i .before .before), idle i, typed (c .before), le-ltb (length (jobsOf (start (first i) .args .t))) maxJobs (omega (arith, counted i))) refl
+    rw (met (first i), numbered (i .before .before .before), idle i, typed (c .before), le-ltb (length (jobsOf (start (first i) .args .t))) maxJobs (omega (arith, counted i))) refl
 
 returns-6 : tie.Need-returns-6
 returns-6 c =
     let i = c .before .before .before in
-    rw (met (first i), numbered (i .before .before), idle i, typed (c .before), lt-ltb (length (jobsOf (start (first i) .args .t))) maxJobs (omega (arith, counted i))) refl
+    rw (met (first i), numbered (i .before .before .before), idle i, typed (c .before), lt-ltb (length (jobsOf (start (first i) .args .t))) maxJobs (omega (arith, counted i))) refl
 
 pub load-answer-spec : {M : Type 1} → statement M
 load-answer-spec =
@@ -92,7 +92,7 @@ load-answer-spec =
     returns
     in-range-requires
     returns-2
-    place-of-requires
+    look-up-requires
     returns-3
     in-range-requires-2
     returns-4

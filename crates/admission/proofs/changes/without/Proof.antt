@@ -49,6 +49,9 @@ loop-again c =
     let at = c .before .before .before .args .at in
     (search needs, search needs, l .inv .2, ap (λ js. set js (l .i) (getD (t .jobs) (l .i + 1) noJob)) (l .inv .3) ∙ closed-more (t .jobs) at noJob (l .i) (l .inv .0) (omega arith) (omega arith))
 
+no-job-requires : tie.Need-no-job-requires Inv-loop μ-loop
+no-job-requires c κs = tt
+
 element-set-from-next : tie.Need-element-set-from-next Inv-loop μ-loop
 element-set-from-next c = search needs
 
@@ -57,12 +60,12 @@ sub-next c = search needs
 
 returns : tie.Need-returns Inv-loop μ-loop
 returns c =
-    let l = c .before .loop in
-    let t = c .before .before .args .t1 in
-    let at = c .before .before .args .at in
+    let l = c .before .before .loop in
+    let t = c .before .before .before .args .t1 in
+    let at = c .before .before .before .args .at in
     let last : l .i ≡ 63 = omega arith in
     let closed : l .next .jobs ≡ closedTo (t .jobs) at noJob 63 = rw last at (l .inv .3) in
-    (omega arith, rw add-one (ap (λ js. set js 63 noJob) closed ∙ closed-all (t .jobs) at noJob 63 (omega arith) (omega arith) (omega arith) noJob))
+    (omega arith, rw (c .no-job .ensures, add-one) (ap (λ js. set js 63 noJob) closed ∙ closed-all (t .jobs) at noJob 63 (omega arith) (omega arith) (omega arith) noJob))
 
 pub without-spec : {M : Type 1} → statement M
 without-spec =
@@ -79,6 +82,7 @@ without-spec =
     add-i
     loop-less
     loop-again
+    no-job-requires
     element-set-from-next
     sub-next
     returns)
