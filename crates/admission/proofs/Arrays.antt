@@ -51,6 +51,11 @@ fill-more P xs i v room h here k range =
     below zero r = absurd (omega arith)
     below (suc k) r = subst⁻¹ (P (suc k)) (getD-set-other xs i k v 0 (λ e. omega arith)) (h (suc k) r)
 
+-- an entry behind the one written is as it was
+pub set-behind : (xs : List ℕ) (i v k : ℕ) → i + 1 < k → at (set xs i v) k ≡ at xs k
+set-behind xs i v zero h = absurd (omega arith)
+set-behind xs i v (suc k) h = getD-set-other xs i k v 0 (λ e. omega arith)
+
 -- what owning a table says of its places
 pub table-places : (t : Table) (vs : List Val) → Is the-row t vs → length (t .jobs) ≡ maxJobs
 table-places t vs good = sym (length-map (t .jobs) _) ∙ good .1 .1 .1 .0 .1 .0 .1

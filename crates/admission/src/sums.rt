@@ -2,6 +2,7 @@
 // stage's demands and weights for another's in one act.
 ghost use mathlib.Core.Path.{_≡_};
 ghost use Prim.Native.Nat.{ℕ, _+_, _-_, _≤_, _<_};
+ghost use lib.ListN.{length};
 ghost use Rattle.model.specs.Limits.{maxJobs};
 ghost use Rattle.model.specs.Numbers.{InRange, at, sumTo, Each};
 ghost use Rattle.model.specs.Plan.{noStage};
@@ -41,18 +42,16 @@ pub(crate) fn no_stage() -> Stage
     }
 }
 
-// The first n amounts with the old given back and the new taken.
-fn exchanged(amounts: [u16; 32], old: &[u8; 32], new: &[u8; 32], n: usize) -> [u16; 32]
-    requires { ⌜ (n ≤ 32) × Exchangeable n amounts (now old) ⌝ }
-    ensures { λ r. ⌜ Exchanged n amounts (now (old .entry)) (now (new .entry)) r ⌝ }
+// The first n amounts give back the old and take the new, in place.
+fn exchange(amounts: &mut [u16; 32], old: &[u8; 32], new: &[u8; 32], n: usize)
+    requires { ⌜ (n ≤ 32) × (length (now amounts) ≡ 32) × Exchangeable n (now amounts) (now old) ⌝ }
+    ensures { λ _. ⌜ (length (now (amounts .exit)) ≡ 32) × Exchanged n (now (amounts .entry)) (now (old .entry)) (now (new .entry)) (now (amounts .exit)) ⌝ }
 {
-    let mut next = amounts;
     let mut i = 0;
     while i < n {
-        next[i] = amounts[i] - word(old[i]) + word(new[i]);
+        amounts[i] = amounts[i] - word(old[i]) + word(new[i]);
         i += 1;
     }
-    next
 }
 
 impl Sums {
@@ -62,24 +61,6 @@ impl Sums {
         Sums {
             units: [0; 32],
             weights: [0; 32],
-        }
-    }
-
-    pub(crate) fn swapped(self, old: Stage, new: Stage, resources: usize, rows: usize) -> Sums
-        requires { ⌜ (resources ≤ 32) × (rows ≤ 32) × Exchangeable resources (self .units) (old .demand) × Exchangeable rows (self .weights) (old .weight) ⌝ }
-        ensures { λ r. ⌜ Exchanged resources (self .units) (old .demand) (new .demand) (r .units) × Exchanged rows (self .weights) (old .weight) (new .weight) (r .weights) ⌝ }
-    {
-        let units = self.units;
-        let weights = self.weights;
-        let old_demand = old.demand;
-        let new_demand = new.demand;
-        let old_weight = old.weight;
-        let new_weight = new.weight;
-        let next_units = exchanged(units, &old_demand, &new_demand, resources);
-        let next_weights = exchanged(weights, &old_weight, &new_weight, rows);
-        Sums {
-            units: next_units,
-            weights: next_weights,
         }
     }
 }
@@ -147,10 +128,15 @@ pub(crate) fn judged(sums: Sums, old: Stage, new: Stage, limits: Limits) -> Answ
     requires { ⌜ (limits .resources ≤ 32) × (limits .rows ≤ 32) × Exchangeable (limits .resources) (sums .units) (old .demand) × Exchangeable (limits .rows) (sums .weights) (old .weight) ⌝ }
     ensures { λ r. ⌜ r ≡ keptAnswer (lowestAfter (limits .resources) (sums .units) (old .demand) (new .demand) (limits .capacity)) (lowestAfter (limits .rows) (sums .weights) (old .weight) (new .weight) (limits .bound)) ⌝ }
 {
-    kept(
-        sums.swapped(old, new, limits.resources, limits.rows),
-        limits,
-    )
+    let mut units = sums.units;
+    let old_demand = old.demand;
+    let new_demand = new.demand;
+    exchange(&mut units, &old_demand, &new_demand, limits.resources);
+    let mut weights = sums.weights;
+    let old_weight = old.weight;
+    let new_weight = new.weight;
+    exchange(&mut weights, &old_weight, &new_weight, limits.rows);
+    kept(Sums { units, weights }, limits)
 }
 
 // How many stages come before those of each type.
@@ -186,15 +172,20 @@ pub(crate) fn sums_of(p: Plan, t: Table) -> Sums
     let rows = p.rows as usize;
     let lengths = p.lengths;
     let before = stages_before(&lengths);
-    let mut sums = Sums::none();
+    let none = [0; 32];
+    let mut units = [0; 32];
+    let mut weights = [0; 32];
     let count = t.count;
     let mut i = 0;
     while i < count {
         let job = t.jobs[i];
         let at = place(&before, job.kind, job.stage);
         let s = p.stages[at];
-        sums = sums.swapped(no_stage(), s, resources, rows);
+        let demand = s.demand;
+        exchange(&mut units, &none, &demand, resources);
+        let weight = s.weight;
+        exchange(&mut weights, &none, &weight, rows);
         i += 1;
     }
-    sums
+    Sums { units, weights }
 }

@@ -2,10 +2,10 @@
 use Prim.Native.Nat.{_-_, _≤_, _<_}
 use native.Mathlib.Omega.{arith}
 use mathlib.Core.Path.{_≡_, refl}
-use lib.ListN.{take}
+use lib.ListN.{length, take}
 use Rattle.model.specs.Plan.{noStage}
 use Rattle.model.proofs.Arrays.{plan-stages}
-use Rattle.admission.specs.Parts.{SumsOf}
+use Rattle.admission.specs.Parts.{SumsOf, noSums}
 use Rattle.admission.proofs.Arrays.{table-places}
 use Rattle.admission.proofs.Totals.{Pass, job-placed, place-asks, job-place, count-asks, count-gives, sums-of-none}
 use borrow.Author.Needs.{needs}
@@ -13,10 +13,11 @@ use Rattle.admission.proofs.sums.sums_of.Statement.{statement}
 use Rattle.admission.proofs.sums.sums_of.Tie as tie
 
 abbrev Inv-loop : tie.InvT-loop
-Inv-loop p t resources rows before sums₀ count i₀ sums i = (count ≡ t .count) × Pass p t before × (i ≤ count) × SumsOf p (take i (t .jobs)) sums
+Inv-loop p t resources rows before none units₀ weights₀ count i₀ units weights i =
+    (count ≡ t .count) × Pass p t before × (i ≤ count) × (length units ≡ 32) × (length weights ≡ 32) × SumsOf p (take i (t .jobs)) (record { units = units; weights = weights })
 
 abbrev μ-loop : tie.MeasureT-loop
-μ-loop p t resources rows before sums₀ count i₀ sums i = count - i
+μ-loop p t resources rows before none units₀ weights₀ count i₀ units weights i = count - i
 
 cast-resources : tie.Need-cast-resources Inv-loop μ-loop
 cast-resources c = search needs
@@ -27,12 +28,9 @@ cast-rows c = search needs
 stages-before-requires : tie.Need-stages-before-requires Inv-loop μ-loop
 stages-before-requires c κs = tt
 
-none-requires : tie.Need-none-requires Inv-loop μ-loop
-none-requires c κs = tt
-
 loop-holds : tie.Need-loop-holds Inv-loop μ-loop
 loop-holds c =
-    let start = c .before .before .before .before in (
+    let start = c .before .before .before in (
       refl,
       record {
         sound = start .pre .0;
@@ -40,10 +38,12 @@ loop-holds c =
         few = start .pre .2;
         jobs = table-places (start .args .t2) _ (start .good .1 .0);
         stages = plan-stages (start .args .t1) _ (start .good .0);
-        starts = c .before .stages-before .ensures;
+        starts = c .stages-before .ensures;
       },
       search needs,
-      sums-of-none (start .args .t1) (c .none .result) (c .none .ensures),
+      refl,
+      refl,
+      sums-of-none (start .args .t1) noSums refl,
     )
 
 mul-job : tie.Need-mul-job Inv-loop μ-loop
@@ -69,14 +69,19 @@ mul-s c = omega (arith, within c)
 element-copy-out-s : tie.Need-element-copy-out-s Inv-loop μ-loop
 element-copy-out-s c = within c
 
-no-stage-requires : tie.Need-no-stage-requires Inv-loop μ-loop
-no-stage-requires c κs = tt
+exchange-requires : tie.Need-exchange-requires Inv-loop μ-loop
+exchange-requires c κs =
+    let l = c .before .before .before .before .before .before .before .before .before .loop in
+    let at = c .before .before .before .before .before .place in
+    let asks = count-asks (l .inv .1) (l .i) (omega arith) (at .result) (at .ensures) noStage refl noStage (record { units = l .units; weights = l .weights }) (l .inv .5) in
+    (asks .0, l .inv .3, asks .2)
 
-swapped-requires : tie.Need-swapped-requires Inv-loop μ-loop
-swapped-requires c κs =
-    let l = c .before .before .before .before .before .before .loop in
-    let at = c .before .before .place in
-    count-asks (l .inv .1) (l .i) (omega arith) (at .result) (at .ensures) (c .no-stage .result) (c .no-stage .ensures) noStage (l .sums) (l .inv .3)
+exchange-requires-2 : tie.Need-exchange-requires-2 Inv-loop μ-loop
+exchange-requires-2 c κs =
+    let l = c .before .before .before .before .before .before .before .before .before .before .before .before .before .before .loop in
+    let at = c .before .before .before .before .before .before .before .before .before .before .place in
+    let asks = count-asks (l .inv .1) (l .i) (omega arith) (at .result) (at .ensures) noStage refl noStage (record { units = l .units; weights = l .weights }) (l .inv .5) in
+    (asks .1, l .inv .4, asks .3)
 
 add-i : tie.Need-add-i Inv-loop μ-loop
 add-i c = search needs
@@ -86,19 +91,21 @@ loop-less c = search needs
 
 loop-again : tie.Need-loop-again Inv-loop μ-loop
 loop-again c =
-    let l = c .before .before .before .before .before .before .before .loop in
-    let at = c .before .before .before .place in (
+    let l = c .before .before .before .before .before .before .before .before .before .before .before .before .before .before .before .loop in
+    let at = c .before .before .before .before .before .before .before .before .before .before .before .place in (
       refl,
       l .inv .1,
       omega arith,
-      count-gives (l .inv .1) (l .i) (omega arith) (at .result) (at .ensures) (c .before .no-stage .result) (c .before .no-stage .ensures) _ (l .sums) (l .inv .3) (c .swapped .result) (c .swapped .ensures),
+      c .before .before .before .before .before .exchange .ensures .0,
+      c .exchange2 .ensures .0,
+      count-gives (l .inv .1) (l .i) (omega arith) (at .result) (at .ensures) noStage refl _ (record { units = l .units; weights = l .weights }) (l .inv .5) _ (c .before .before .before .before .before .exchange .ensures .1, c .exchange2 .ensures .1),
     )
 
 returns : tie.Need-returns Inv-loop μ-loop
 returns c =
     let l = c .before .loop in
-    let all : l .i ≡ c .before .before .before .before .before .before .args .t2 .count = omega arith in
-    rw all at (l .inv .3)
+    let all : l .i ≡ c .before .before .before .before .before .args .t2 .count = omega arith in
+    rw all at (l .inv .5)
 
 pub sums-of-spec : {M : Type 1} → statement M
 sums-of-spec =
@@ -109,15 +116,14 @@ sums-of-spec =
     cast-resources
     cast-rows
     stages-before-requires
-    none-requires
     loop-holds
     mul-job
     element-copy-out-job
     place-requires
     mul-s
     element-copy-out-s
-    no-stage-requires
-    swapped-requires
+    exchange-requires
+    exchange-requires-2
     add-i
     loop-less
     loop-again
