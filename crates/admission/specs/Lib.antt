@@ -1,7 +1,2 @@
--- What the proofs are about, to be read in this order. A type with a capital is a condition as document 01 words it, and
--- so are the lists named ..Conditions; a test, and what stands under "the same, computed", is what is answered. The laws
--- that join the two are in proofs/. Parts names what the inner functions compute; no promise rests on it.
+-- The table as a value, and what its methods hand back.
 pub mod Table
-pub mod Events
-pub mod Drain
-pub mod Parts

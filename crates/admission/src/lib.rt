@@ -1,19 +1,29 @@
-// The table of active jobs and the answers of the events and the drain, as values.
+// The table of active jobs with its methods: what a host calls. Each hands its job list to the function that does the work.
 ghost use mathlib.Core.Path.{_≡_};
-ghost use Rattle.admission.specs.Table.{emptyTable};
-ghost use Rattle.admission.specs.Events.{isAdmitted};
+ghost use Rattle.events.specs.Events.{agreement};
+ghost use Rattle.admission.specs.Table.{emptyTable, outcome, drain};
+use events::Answer;
+use events::End;
+use events::Event;
+use events::JobList;
 use model::Job;
+use model::Plan;
 
-mod admit;
-mod agreement;
-mod changes;
-mod draining;
-mod sums;
-
-// The active jobs in the order they were loaded; zeros beyond `count`.
 pub struct Table {
-    pub count: usize,
-    pub jobs: [Job; 64],
+    pub list: JobList,
+}
+
+// The answer to an event with the table afterwards.
+pub struct Outcome {
+    pub answer: Answer,
+    pub table: Table,
+}
+
+// The end of a drain with the moves made and the table afterwards.
+pub struct Drained {
+    pub end: End,
+    pub moves: u32,
+    pub table: Table,
 }
 
 impl Table {
@@ -26,70 +36,71 @@ impl Table {
             stage: 0,
         };
         Table {
-            count: 0,
-            jobs: [none; 64],
+            list: JobList {
+                count: 0,
+                jobs: [none; 64],
+            },
         }
     }
-}
 
-// What may happen to a job. Any number may stand in an event.
-pub enum Event {
-    Load { job: u32, kind: u32 },
-    Advance(u32),
-    Unload(u32),
-}
-
-// What an event is answered; its numbers are `answerNumbers` of specs/Events.
-pub enum Answer {
-    Admitted,
-    UnsoundPlan,
-    Disagreement,
-    BadNumber,
-    WrongActivity,
-    UnknownType,
-    Full,
-    WrongStage,
-    OverCapacity(u32),
-    RowBroken(u32),
-}
-
-impl Answer {
-    pub(crate) fn is_admitted(self) -> bool
-        ensures { λ r. ⌜ r ≡ isAdmitted self ⌝ }
+    // Does this table agree with the plan: 0, 11 or 12.
+    pub fn agreement(self, p: Plan) -> Answer
+        ensures { λ r. ⌜ r ≡ agreement p (self .list) ⌝ }
     {
-        match self {
-            Answer::Admitted => true,
-            Answer::UnsoundPlan => false,
-            Answer::Disagreement => false,
-            Answer::BadNumber => false,
-            Answer::WrongActivity => false,
-            Answer::UnknownType => false,
-            Answer::Full => false,
-            Answer::WrongStage => false,
-            Answer::OverCapacity(_) => false,
-            Answer::RowBroken(_) => false,
+        let list = self.list;
+        agreement::agree(p, list).answer
+    }
+
+    pub fn load(self, p: Plan, job: u32, kind: u32) -> Outcome
+        ensures { λ r. ⌜ r ≡ outcome p self (Event.Load job kind) ⌝ }
+    {
+        let list = self.list;
+        let loaded = admit::load(list, p, job, kind);
+        let answer = loaded.answer;
+        let list = loaded.list;
+        Outcome {
+            answer,
+            table: Table { list },
         }
     }
-}
 
-// The answer to an event with the table afterwards.
-pub struct Outcome {
-    pub answer: Answer,
-    pub table: Table,
-}
+    pub fn advance(self, p: Plan, job: u32) -> Outcome
+        ensures { λ r. ⌜ r ≡ outcome p self (Event.Advance job) ⌝ }
+    {
+        let list = self.list;
+        let advanced = admit::advance(list, p, job);
+        let answer = advanced.answer;
+        let list = advanced.list;
+        Outcome {
+            answer,
+            table: Table { list },
+        }
+    }
 
-// How a drain ends; its number is `endNumber` of specs/Drain.
-pub enum End {
-    Emptied,
-    UnsoundPlan,
-    Disagreement,
-    OutOfBudget,
-    NoMove,
-}
+    pub fn unload(self, p: Plan, job: u32) -> Outcome
+        ensures { λ r. ⌜ r ≡ outcome p self (Event.Unload job) ⌝ }
+    {
+        let list = self.list;
+        let unloaded = admit::unload(list, p, job);
+        let answer = unloaded.answer;
+        let list = unloaded.list;
+        Outcome {
+            answer,
+            table: Table { list },
+        }
+    }
 
-// The end of a drain with the moves made and the table afterwards.
-pub struct Drained {
-    pub end: End,
-    pub moves: u32,
-    pub table: Table,
+    pub fn drain(self, p: Plan, budget: u32) -> Drained
+        ensures { λ r. ⌜ r ≡ drain p self budget ⌝ }
+    {
+        let list = self.list;
+        let drained = draining::drain(list, p, budget);
+        let end = drained.end;
+        let list = drained.list;
+        Drained {
+            end,
+            moves: drained.moves,
+            table: Table { list },
+        }
+    }
 }

@@ -1,38 +1,33 @@
 // What the moves alone, never a load, can do from each state.
+use crate::space::Space;
+use crate::space::moves_from;
+use model::Plan;
 
-// A set of states with each of those that a move takes into it.
-fn widened(moves: &[u64; 64], set: u64) -> u64 {
-    let mut wider = set;
-    let mut i = 0;
-    while i < 64 {
-        if moves[i] & set != 0 {
-            wider = wider | 1 << i;
+// The states that a move takes into the set; one that was not found has the empty table, and no move.
+fn leading_into(s: Space, p: Plan, set: u64) -> u64 {
+    let mut leading = 0;
+    let mut n = 0;
+    while n < 48 {
+        if moves_from(p, s.tables[n]) & set != 0 {
+            leading = leading | 1 << n;
         }
-        i += 1;
+        n += 1;
     }
-    wider
+    leading
 }
 
-// How many states some order of moves empties: those that lead back to the empty cell, which was found first.
-pub(crate) fn emptied(moves: &[u64; 64]) -> u32 {
+// The states that some order of moves empties: those that lead to state 0, the empty cell. Four jobs have twelve moves at most.
+pub(crate) fn emptied(s: Space, p: Plan) -> u64 {
     let mut set = 1;
-    let mut round: usize = 0;
-    while round < 64 {
-        set = widened(moves, set);
-        round += 1;
+    let mut left: usize = 12;
+    while 0 < left {
+        set = set | leading_into(s, p, set);
+        left -= 1;
     }
-    u64::count_ones(set)
+    set
 }
 
-// How many states have jobs, as all but the first have, and no move.
-pub(crate) fn blocked(moves: &[u64; 64], count: usize) -> u32 {
-    let mut set: u64 = 0;
-    let mut i = 1;
-    while i < 64 {
-        if i < count && moves[i] == 0 {
-            set = set | 1 << i;
-        }
-        i += 1;
-    }
-    u64::count_ones(set)
+// The states found that have jobs, as all but state 0 have, and no move.
+pub(crate) fn blocked(s: Space, p: Plan) -> u64 {
+    (s.found ^ leading_into(s, p, s.found)) & 0xfffffffffffffffe
 }

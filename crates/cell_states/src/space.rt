@@ -1,166 +1,121 @@
-// The search: from every state found, every load, advance and unload at the entrances.
+// The search: from every state found, every event of five job numbers at the entrances. The cell holds four jobs at most, so a
+// number is always free; and a refusal hands back the table that it met, so it leads to no new state.
 ghost use Prim.Native.Nat.{_≤_};
+use crate::table1::number_of;
 use admission::Outcome;
 use admission::Table;
 use model::Plan;
-use numbers::answer_number;
 
-// The states found so far, in the order they were found: a table of each; its marking, a number whose decimal digits are
-// the jobs per stage, type 1 then type 2; and the set of the states that its admitted advances and unloads lead to, bit i for
-// the state at place i.
+// The states found, bit n of `found` for number n of Table 1 and bit 47 for one that it lacks, with a table of each.
 pub(crate) struct Space {
-    pub count: usize,
-    pub tables: [Table; 64],
-    pub markings: [u32; 64],
-    pub moves: [u64; 64],
+    pub found: u64,
+    pub tables: [Table; 48],
 }
 
-// One job at a stage, as a marking.
-fn unit(kind: u32, stage: u32) -> u32
+// One job at a stage, as a marking; beyond the last job stand zeros.
+fn unit(kind: u32, stage: u32) -> u64
     ensures { λ r. ⌜ r ≤ 100000 ⌝ }
 {
-    if kind == 1 {
-        match stage {
+    match kind {
+        0 => 0,
+        1 => match stage {
             1 => 100000,
             2 => 10000,
             _ => 1000,
-        }
-    } else {
-        match stage {
+        },
+        _ => match stage {
             1 => 100,
             2 => 10,
             _ => 1,
-        }
+        },
     }
 }
 
-fn marking_of(t: Table) -> u32 {
-    let count = t.count;
+// The number of a table's state.
+fn state_of(t: Table) -> usize
+    ensures { λ r. ⌜ r ≤ 47 ⌝ }
+{
+    let l = t.list;
     let mut marking = 0;
     let mut i = 0;
     while i < 64 {
-        if count <= i {
-            return marking;
-        }
-        let j = t.jobs[i];
+        let j = l.jobs[i];
         marking += unit(j.kind, j.stage);
         i += 1;
     }
-    marking
-}
-
-// The place of a marking; the count where it is not there.
-pub(crate) fn place_of(markings: &[u32; 64], count: usize, marking: u32) -> usize {
-    let mut i = 0;
-    while i < 64 {
-        if count <= i || markings[i] == marking {
-            return i;
-        }
-        i += 1;
-    }
-    i
-}
-
-// The lowest marking above this one, or 1000000; beyond the last state stand zeros.
-pub(crate) fn next_above(markings: &[u32; 64], marking: u32) -> u32 {
-    let mut next = 1000000;
-    let mut i = 0;
-    while i < 64 {
-        let m = markings[i];
-        if marking < m && m < next {
-            next = m;
-        }
-        i += 1;
-    }
-    next
+    number_of(marking)
 }
 
 fn empty_cell() -> Space {
     Space {
-        count: 1,
-        tables: [Table::empty(); 64],
-        markings: [0; 64],
-        moves: [0; 64],
+        found: 1,
+        tables: [Table::empty(); 48],
     }
 }
 
-// With this table's state, if it is new.
-fn with_state(s: Space, t: Table) -> Space {
-    let count = s.count;
-    let markings = s.markings;
-    let marking = marking_of(t);
-    if place_of(&markings, count, marking) < count {
-        return s;
-    }
-    if 64 <= count {
-        return s;
-    }
+// With the state after an event, and its table, for any will do.
+fn with_outcome(s: Space, o: Outcome) -> Space {
+    let t = o.table;
+    let n = state_of(t);
     let mut next = s;
-    next.tables[count] = t;
-    next.markings[count] = marking;
-    next.count = count + 1;
+    next.found = s.found | 1 << n;
+    next.tables[n] = t;
     next
 }
 
-// A load admitted in some state.
-fn loaded(s: Space, o: Outcome) -> Space {
-    let answer = o.answer;
-    let table = o.table;
-    if answer_number(answer) == 0 {
-        with_state(s, table)
-    } else {
-        s
-    }
-}
-
-// A move admitted in the state at place `from`.
-fn moved(s: Space, from: usize, o: Outcome) -> Space {
-    let answer = o.answer;
-    let table = o.table;
-    if answer_number(answer) != 0 {
-        return s;
-    }
-    let mut next = with_state(s, table);
-    let count = next.count;
-    let markings = next.markings;
-    let to = place_of(&markings, count, marking_of(table));
-    if from < 64 && to < 64 {
-        next.moves[from] = next.moves[from] | 1 << to;
+// With the states that one event leads to from this table.
+fn followed(s: Space, p: Plan, t: Table) -> Space {
+    let mut next = s;
+    let mut job = 1;
+    while job <= 5 {
+        next = with_outcome(next, t.load(p, job, 1));
+        next = with_outcome(next, t.load(p, job, 2));
+        next = with_outcome(next, t.advance(p, job));
+        next = with_outcome(next, t.unload(p, job));
+        job += 1;
     }
     next
 }
 
-// Every event from the state at place `from`. Its jobs were loaded from states found before it, each under its state's
-// place, so the number of the job loaded here is not active.
-fn followed(s: Space, p: Plan, from: usize) -> Space {
-    if 64 <= from {
-        return s;
-    }
-    let t = s.tables[from];
-    let count = t.count;
-    let number = (from + 1) as u32;
-    let mut next = loaded(s, t.load(p, number, 1));
-    next = loaded(next, t.load(p, number, 2));
-    let mut i = 0;
-    while i < 64 {
-        if i < count {
-            let j = t.jobs[i];
-            next = moved(next, from, t.advance(p, j.number));
-            next = moved(next, from, t.unload(p, j.number));
-        }
-        i += 1;
-    }
-    next
+fn u32_to_usize(x: u32) -> usize {
+    x as usize
 }
 
+// Each state is followed once, the lowest number first.
 pub(crate) fn explored(p: Plan) -> Space {
     let mut s = empty_cell();
-    let mut from = 0;
-    while from < 64 {
-        if from < s.count {
-            s = followed(s, p, from);
+    let mut done = 0;
+    let mut left: usize = 48;
+    while 0 < left {
+        let n = u32_to_usize(u64::trailing_zeros(s.found ^ done));
+        if n < 48 {
+            s = followed(s, p, s.tables[n]);
+            done = done | 1 << n;
         }
-        from += 1;
+        left -= 1;
     }
     s
+}
+
+// One bit, for the number of a table's state.
+fn bit_of(t: Table) -> u64 {
+    1 << state_of(t)
+}
+
+fn bit_after(o: Outcome) -> u64 {
+    let t = o.table;
+    bit_of(t)
+}
+
+// The set of the other states that an advance or an unload leads to from this table.
+pub(crate) fn moves_from(p: Plan, t: Table) -> u64 {
+    let own = bit_of(t);
+    let mut set = own;
+    let mut job = 1;
+    while job <= 5 {
+        set = set | bit_after(t.advance(p, job));
+        set = set | bit_after(t.unload(p, job));
+        job += 1;
+    }
+    set ^ own
 }

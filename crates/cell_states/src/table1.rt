@@ -1,8 +1,9 @@
 // Table 1 of source document 003.
-use crate::space::place_of;
+ghost use Prim.Native.Nat.{_≤_};
 
-// The markings of the states 0 to 46, in the paper's order.
-const TABLE_1: [u32; 47] = [
+// The markings of the states 0 to 46, in the paper's order: a number whose decimal digits are the jobs per stage, type 1 then
+// type 2.
+pub(crate) const TABLE_1: [u64; 47] = [
     000000,
     100000,
     000100,
@@ -53,26 +54,15 @@ const TABLE_1: [u32; 47] = [
 ];
 
 // The number of the state with this marking; 47 where the table lacks it.
-pub(crate) fn number_of(marking: u32) -> u32 {
+pub(crate) fn number_of(marking: u64) -> usize
+    ensures { λ r. ⌜ r ≤ 47 ⌝ }
+{
     let mut i = 0;
     while i < 47 {
         if TABLE_1[i] == marking {
-            return i as u32;
+            return i;
         }
         i += 1;
     }
-    47
-}
-
-// How many of the table's states have their marking among these.
-pub(crate) fn known(markings: &[u32; 64], count: usize) -> u32 {
-    let mut set: u64 = 0;
-    let mut i = 0;
-    while i < 47 {
-        if place_of(markings, count, TABLE_1[i]) < count {
-            set = set | 1 << i;
-        }
-        i += 1;
-    }
-    u64::count_ones(set)
+    i
 }

@@ -1,20 +1,72 @@
-// Document 01's runs at the entrances, and both sides of every limit of a plan and a table. Each line has the run's name,
-// then its numbers.
-mod checks;
-mod crossing;
-mod lines;
+// Document 01's runs at the entrances, and both sides of every limit of a plan and a table. The cases are the lines of
+// standard input; the first byte of a line is its letter, and numbers follow, each after a tab.
+//
+//   C R T S B A K  set a plan, in plan.rt     X      the first stages alike    J N    set a table, in table.rt
+//   E              empties both               >      keeps both
+//   =              ends the line of output, takes back what was kept, and writes the rest of its line
+//   +              the same, but goes on from what is set    :      only writes the rest of its line
+//   l a u d q e r  ask, in ask.rt             m      loads many jobs    f      the stage of the earliest loaded
+//
+// Nothing is asked of what is set: a number is taken modulo what its place holds, and a place modulo its array. A missing
+// number is 0, and a line with another letter does nothing. Input beyond 65,536 bytes is not read.
+mod ask;
+mod line;
 mod plan;
-mod plan_limits;
-mod refusals;
-mod sides;
 mod table;
-mod table_limits;
+
+use admission::Table;
+use bytes::scan::find;
+use libc::STDIN_FILENO;
+use line::field;
+use model::Plan;
+
+// A plan and a table, which need not go together.
+struct Cell {
+    plan: Plan,
+    table: Table,
+}
+
+fn empty() -> Cell {
+    Cell {
+        plan: plans::empty_plan(),
+        table: Table::empty(),
+    }
+}
+
+fn next(c: Cell, letter: u8, line: &[u8]) -> Cell {
+    let x = field(line, 1);
+    let y = field(line, 2);
+    let z = field(line, 3);
+    let w = field(line, 4);
+    let plan = plan::with(c.plan, letter, x, y, z);
+    let t = table::with(c.table, letter, x, y, z, w);
+    Cell {
+        plan,
+        table: ask::asked(plan, t, letter, line, x, y, z, w),
+    }
+}
+
+fn run(text: &[u8]) {
+    let mut cell = empty();
+    let mut kept = cell;
+    let mut at = 0;
+    while at < text.len() {
+        let end = find(text, at, text.len(), b'\n');
+        let letter = text[at];
+        let line = &text[at..end];
+        at = end + 1;
+        if letter == b'=' {
+            cell = kept;
+        }
+        cell = next(cell, letter, line);
+        if letter == b'>' {
+            kept = cell;
+        }
+    }
+}
 
 fn main() {
-    crossing::run();
-    sides::run();
-    refusals::run();
-    plan_limits::run();
-    table_limits::run();
-    checks::run();
+    let mut text = io::large_buffer();
+    let n = io::read_full(STDIN_FILENO, &mut text);
+    run(&text[..n]);
 }

@@ -1,75 +1,84 @@
-// Tables made job by job, without asking an event.
+// Tables set job by job, without asking an event. Only this file makes a table or reads its count and its jobs.
 use admission::Table;
+use events::JobList;
 use model::Job;
+use model::Plan;
+
+// Of the earliest loaded job.
+pub(crate) fn first_stage(t: Table) -> u32 {
+    let l = t.list;
+    let j = l.jobs[0];
+    j.stage
+}
+
+pub(crate) fn jobs(t: Table) -> u64 {
+    let l = t.list;
+    l.count as u64
+}
+
+// The largest number of a line stands for the largest count.
+fn with_count(t: JobList, n: u32) -> JobList {
+    let mut next = t;
+    next.count = if n < 4294967295 {
+        n as usize
+    } else {
+        18446744073709551615
+    };
+    next
+}
+
+// The place counts from 1; the count of jobs stays.
+fn with_job(t: JobList, at: u32, number: u32, kind: u32, stage: u32) -> JobList {
+    let i = (at as usize + 63) % 64;
+    let mut next = t;
+    next.jobs[i] = Job {
+        number,
+        kind,
+        stage,
+    };
+    next
+}
+
+// J place number type stage; N jobs.
+pub(crate) fn with(t: Table, letter: u8, x: u32, y: u32, z: u32, w: u32) -> Table {
+    let l = t.list;
+    match letter {
+        b'E' => Table::empty(),
+        b'N' => Table {
+            list: with_count(l, x),
+        },
+        b'J' => Table {
+            list: with_job(l, x, y, z, w),
+        },
+        _ => t,
+    }
+}
+
+// The jobs 1 to n, at most 64, of type 1, loaded in turn.
+pub(crate) fn loaded(p: Plan, t: Table, n: u32) -> Table {
+    let n = n % 65;
+    let mut t = t;
+    let mut job = 0;
+    while job < n {
+        job += 1;
+        t = t.load(p, job, 1).table;
+    }
+    t
+}
 
 fn same_job(a: Job, b: Job) -> bool {
-    a.number == b.number && a.kind == b.kind && a.stage == b.stage
+    (a.number == b.number) & (a.kind == b.kind) & (a.stage == b.stage)
 }
 
 // Are they the same in every place, those beyond the count too?
 pub(crate) fn same(a: Table, b: Table) -> bool {
-    if a.count != b.count {
-        return false;
-    }
+    let a = a.list;
+    let b = b.list;
+    let mut same = a.count == b.count;
     let mut i = 0;
     while i < 64 {
-        let j = a.jobs[i];
-        let k = b.jobs[i];
-        if !same_job(j, k) {
-            return false;
-        }
+        same = same & same_job(a.jobs[i], b.jobs[i]);
         i += 1;
     }
-    true
-}
-
-pub(crate) fn first_stage(t: Table) -> u32 {
-    let j = t.jobs[0];
-    j.stage
-}
-
-// The place counts from 0; the count of jobs stays.
-pub(crate) fn with_place(t: Table, at: usize, number: u32, kind: u32, stage: u32) -> Table {
-    let mut next = t;
-    if at < 64 {
-        next.jobs[at] = Job {
-            number,
-            kind,
-            stage,
-        };
-    }
-    next
-}
-
-// A job more, last in order.
-pub(crate) fn with_job(t: Table, number: u32, kind: u32, stage: u32) -> Table {
-    let count = t.count;
-    if 64 <= count {
-        return t;
-    }
-    let mut next = with_place(t, count, number, kind, stage);
-    next.count = count + 1;
-    next
-}
-
-pub(crate) fn one_job(number: u32, kind: u32, stage: u32) -> Table {
-    with_job(Table::empty(), number, kind, stage)
-}
-
-// Jobs per stage of the crossing routes, at most two each, type 1 then type 2. Each stage has its own numbers.
-pub(crate) fn jobs_per_stage(counts: &[u8; 6]) -> Table {
-    let mut t = Table::empty();
-    let mut i: u32 = 0;
-    while i < 6 {
-        let at = i as usize;
-        let n = counts[at];
-        if 0 < n {
-            t = with_job(t, 2 * i + 1, 1 + i / 3, 1 + i % 3);
-        }
-        if 1 < n {
-            t = with_job(t, 2 * i + 2, 1 + i / 3, 1 + i % 3);
-        }
-        i += 1;
-    }
-    t
+    same
 }

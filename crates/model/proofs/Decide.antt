@@ -26,6 +26,10 @@ module _ {P : Type 0} where
   passes (holding h) k = refl
   passes (failing h) k = absurd (h k)
 
+  pub fails : {b : Bool} → Decides P b → (¬ P) → b ≡ false
+  fails (holding h) k = absurd (k h)
+  fails (failing h) k = refl
+
   pub decides-not : {b : Bool} → Decides P b → Decides (¬ P) (not b)
   decides-not (holding h) = failing (λ k. k h)
   decides-not (failing h) = holding h

@@ -12,11 +12,11 @@ use borrow.Author.Tests.{eq-eqb, ne-eqb}
 use Rattle.model.specs.Limits.{maxNumber}
 use Rattle.model.specs.Numbers.{Each, Distinct}
 use Rattle.model.specs.Plan.{capacityOf, boundOf, demandOf, weightOf, lengthOf}
-use Rattle.model.specs.Jobs.{overStages, overJobs, unitsHeld, rowSum, KeepsCapacities, KeepsRows, Exceeded, Broken, exceeded, broken, Active, isActive, jobOf, advancedJob, advanced, unloaded, numbers, Numbered, Placed, Agreeing, distinct, fits, agreeing}
+use Rattle.model.specs.Jobs.{overStages, overJobs, unitsHeld, rowSum, KeepsCapacities, KeepsRows, Exceeded, Broken, exceeded, broken, Active, isActive, jobOf, advancedJob, advanced, unloaded, numbers, Numbered, AtStage, Agreeing, distinct, fits, agreeing}
 use Rattle.model.specs.declared.Plan.{Plan}
 use Rattle.model.specs.declared.Job.{Job}
 use Rattle.model.proofs.Decide.{Decides, holding, failing, decides-iff, _and_, decides-then, decides-or, decides-not, decides-le, decides-eq, decides-range, decides-each, decides-lowest, lowest-found}
-use Rattle.model.proofs.Lists.{append-each, each-at, each-removed, each-map, each-both}
+use Rattle.model.proofs.Lists.{split-at, split-first, split-later, append-each, each-at, each-removed, each-map, each-both}
 use Rattle.model.proofs.Sums.{over-stages-jobs}
 
 -- numbers that differ
@@ -50,14 +50,7 @@ distinct-removed (x ∷ xs) ys j h = (
 )
 
 active-later : {n : ℕ} {js : List Job} (x : Job) → Active n js → Active n (x ∷ js)
-active-later x a =
-    record {
-      before = x ∷ a .before;
-      job = a .job;
-      after = a .after;
-      whole = ap (λ (js : List Job). x ∷ js) (a .whole);
-      numbered = a .numbered;
-    }
+active-later x a = record { here = split-later x (a .here); numbered = a .numbered }
 
 pub distinct-added : (js : List Job) (j : Job) → (¬ Active (j .number) js) → Distinct (numbers js) → Distinct (numbers (js ++ j ∷ []))
 distinct-added [] j n h = (tt, tt)
@@ -67,15 +60,15 @@ distinct-added (x ∷ js) j n h = (
 )
   where
     other : j .number ≢ x .number
-    other e = n (record { before = []; job = x; after = js; whole = refl; numbered = sym e })
+    other e = n (record { here = split-first x js; numbered = sym e })
 
 -- the job that a number names, and the lists after its advance and its unload
 pub record Found (p : Plan) (n : ℕ) (js : List Job) (a : Active n js) : Type 0 where
-  pub job : jobOf n js ≡ a .job
-  pub advance : advanced p n js ≡ a .before ++ advancedJob p (a .job) ∷ a .after
-  pub unload : unloaded n js ≡ a .before ++ a .after
+  pub job : jobOf n js ≡ a .here .item
+  pub advance : advanced p n js ≡ a .here .before ++ advancedJob p (a .here .item) ∷ a .here .after
+  pub unload : unloaded n js ≡ a .here .before ++ a .here .after
 
-found-at : (p : Plan) (xs : List Job) (j : Job) (ys : List Job) → Distinct (numbers (xs ++ j ∷ ys)) → Found p (j .number) (xs ++ j ∷ ys) (record { before = xs; job = j; after = ys; whole = refl; numbered = refl })
+found-at : (p : Plan) (xs : List Job) (j : Job) (ys : List Job) → Distinct (numbers (xs ++ j ∷ ys)) → Found p (j .number) (xs ++ j ∷ ys) (record { here = split-at xs j ys; numbered = refl })
 found-at p [] j ys h =
     record {
       job = rw (eq-eqb (j .number) (j .number) refl) refl;
@@ -94,28 +87,28 @@ found-at p (x ∷ xs) j ys h =
 
 pub found : (p : Plan) {n : ℕ} {js : List Job} (a : Active n js) → Distinct (numbers js) → Found p n js a
 found p {n} {js} a d =
-    let f = found-at p (a .before) (a .job) (a .after) (subst (λ (js : List Job). Distinct (numbers js)) (a .whole) d) in
+    let f = found-at p (a .here .before) (a .here .item) (a .here .after) (subst (λ (js : List Job). Distinct (numbers js)) (a .here .whole) d) in
     record {
-      job = rw (a .whole, ← a .numbered) (f .job);
-      advance = rw (a .whole, ← a .numbered) (f .advance);
-      unload = rw (a .whole, ← a .numbered) (f .unload);
+      job = rw (a .here .whole, ← a .numbered) (f .job);
+      advance = rw (a .here .whole, ← a .numbered) (f .advance);
+      unload = rw (a .here .whole, ← a .numbered) (f .unload);
     }
 
 -- a number is active where some job of the list has it
 pub none-active : {n : ℕ} → ¬ Active n []
-none-active a = let e = ap length (a .whole) in omega (arith, simp length-append at e)
+none-active a = let e = ap length (a .here .whole) in omega (arith, simp length-append at e)
 
 active-cases : {n : ℕ} {j : Job} {js : List Job} → Active n (j ∷ js) → (j .number ≡ n) ⊎ Active n js
-active-cases {n} {j} {js} a = go (a .before) (a .whole)
+active-cases {n} {j} {js} a = go (a .here .before) (a .here .whole)
   where
-    go : (xs : List Job) → j ∷ js ≡ xs ++ a .job ∷ a .after → (j .number ≡ n) ⊎ Active n js
-    go [] e = let same : j ≡ a .job = cc in inl (ap (λ (i : Job). i .number) same ∙ a .numbered)
+    go : (xs : List Job) → j ∷ js ≡ xs ++ a .here .item ∷ a .here .after → (j .number ≡ n) ⊎ Active n js
+    go [] e = let same : j ≡ a .here .item = cc in inl (ap (λ (i : Job). i .number) same ∙ a .numbered)
     go (x ∷ xs) e =
-        let rest : js ≡ xs ++ a .job ∷ a .after = cc in
-        inr (record { before = xs; job = a .job; after = a .after; whole = rest; numbered = a .numbered })
+        let rest : js ≡ xs ++ a .here .item ∷ a .here .after = cc in
+        inr (record { here = record { before = xs; item = a .here .item; after = a .here .after; whole = rest }; numbered = a .numbered })
 
 pub active-here : {n : ℕ} {j : Job} (js : List Job) → j .number ≡ n → Active n (j ∷ js)
-active-here {n} {j} js e = record { before = []; job = j; after = js; whole = refl; numbered = e }
+active-here {n} {j} js e = record { here = split-first j js; numbered = e }
 
 pub decides-active : (n : ℕ) (js : List Job) → Decides (Active n js) (isActive n js)
 decides-active n [] = failing none-active
@@ -127,16 +120,16 @@ pub decides-distinct : (ns : List ℕ) → Decides (Distinct ns) (distinct ns)
 decides-distinct [] = holding tt
 decides-distinct (n ∷ ns) = decides-each (λ m. decides-not (decides-eq m n)) ns and decides-distinct ns
 
-pub decides-fits : (p : Plan) (j : Job) → Decides (Numbered j × Placed p j) (fits (p .types) (p .lengths) j)
+pub decides-fits : (p : Plan) (j : Job) → Decides (Numbered j × AtStage p j) (fits (p .types) (p .lengths) j)
 unfolding fits
 decides-fits p j =
     decides-iff (λ h. (h .0 .0, (h .0 .1, h .1))) (λ h. ((h .0, h .1 .0), h .1 .1))
     (decides-range (j .number) maxNumber and decides-range (j .kind) (p .types) and decides-range (j .stage) (lengthOf p (j .kind)))
 
 -- capacities and rows, as one case: the sum over stages is tested by the sum over jobs
-module _ (p : Plan) (js : List Job) (placed : Each (Placed p) js) where
+module _ (p : Plan) (js : List Job) (staged : Each (AtStage p) js) where
   decides-sum : (amount : ℕ → ℕ → ℕ) (bound : ℕ) → Decides (overStages p amount js ≤ bound) (leb (overJobs amount js) bound)
-  decides-sum amount bound = rw (over-stages-jobs p amount js placed) (decides-le (overJobs amount js) bound)
+  decides-sum amount bound = rw (over-stages-jobs p amount js staged) (decides-le (overJobs amount js) bound)
 
   decides-unit : (r : ℕ) → Decides (unitsHeld p r js ≤ capacityOf p r) (leb (overJobs (demandOf p r) js) (capacityOf p r))
   decides-unit r = decides-sum (demandOf p r) (capacityOf p r)
@@ -164,13 +157,13 @@ pub decides-agreeing : (p : Plan) (js : List Job) → Decides (Agreeing p js) (a
 unfolding agreeing
 decides-agreeing p js =
     decides-iff whole parts
-    (decides-then (decides-then (decides-each (decides-fits p) js and decides-distinct (numbers js)) (λ h. decides-capacities p js (placed (h .0)))) (λ h. decides-rows p js (placed (h .0 .0))))
+    (decides-then (decides-then (decides-each (decides-fits p) js and decides-distinct (numbers js)) (λ h. decides-capacities p js (staged (h .0)))) (λ h. decides-rows p js (staged (h .0 .0))))
   where
     Fitting : Type 0
-    Fitting = Each (λ (j : Job). Numbered j × Placed p j) js
+    Fitting = Each (λ (j : Job). Numbered j × AtStage p j) js
 
-    placed : Fitting → Each (Placed p) js
-    placed h = each-map (λ (j : Job). Numbered j × Placed p j) (Placed p) (λ j k. k .1) js h
+    staged : Fitting → Each (AtStage p) js
+    staged h = each-map (λ (j : Job). Numbered j × AtStage p j) (AtStage p) (λ j k. k .1) js h
 
     Parts : Type 0
     Parts = ((Fitting × Distinct (numbers js)) × KeepsCapacities p js) × KeepsRows p js
@@ -178,12 +171,12 @@ decides-agreeing p js =
     whole : Parts → Agreeing p js
     whole h =
         record {
-          numbered = each-map (λ (j : Job). Numbered j × Placed p j) Numbered (λ j k. k .0) js (h .0 .0 .0);
+          numbered = each-map (λ (j : Job). Numbered j × AtStage p j) Numbered (λ j k. k .0) js (h .0 .0 .0);
           distinct = h .0 .0 .1;
-          placed = placed (h .0 .0 .0);
+          staged = staged (h .0 .0 .0);
           capacities = h .0 .1;
           rows = h .1;
         }
 
     parts : Agreeing p js → Parts
-    parts h = (((each-both Numbered (Placed p) js (h .numbered) (h .placed), h .distinct), h .capacities), h .rows)
+    parts h = (((each-both Numbered (AtStage p) js (h .numbered) (h .staged), h .distinct), h .capacities), h .rows)

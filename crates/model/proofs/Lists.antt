@@ -1,13 +1,13 @@
 -- What holds of each entry of a list, when the list is put together, loses an entry, or has another in its place; a least
 -- entry; copies.
-use Prim.Native.Nat.{ℕ, zero, suc, _≤_, _<_}
+use Prim.Native.Nat.{ℕ, zero, suc, _+_, _≤_, _<_}
 use native.Mathlib.Nat.{le-refl}
 use native.Mathlib.Omega.{arith}
 use mathlib.Core.Logic.{_⊎_, inl, inr}
 use mathlib.Core.Path.{_≡_, refl, ap}
-use mathlib.Core.List.{List, [], _∷_, _++_}
-use lib.ListN.{length, getD, replicate}
-use Rattle.model.specs.Numbers.{Each}
+use mathlib.Core.List.{List, [], _∷_, _++_, map}
+use lib.ListN.{length, take, getD, replicate}
+use Rattle.model.specs.Numbers.{entry, Each, Split}
 use Rattle.model.proofs.Decide.{decides-le, decided}
 
 module _ {A : Type 0} (P : A → Type 0) where
@@ -36,38 +36,38 @@ pub each-both : {A : Type 0} (P Q : A → Type 0) (xs : List A) → Each P xs �
 each-both P Q [] h k = tt
 each-both P Q (x ∷ xs) h k = ((h .0, k .0), each-both P Q xs (h .1) (k .1))
 
+-- a list split at the entry between two others, at its first, and one entry later
+module _ {A : Type 0} where
+  abbrev pub split-at : (xs : List A) (y : A) (ys : List A) → Split (xs ++ y ∷ ys)
+  split-at xs y ys = record { before = xs; item = y; after = ys; whole = refl }
+
+  abbrev pub split-first : (x : A) (xs : List A) → Split (x ∷ xs)
+  split-first x xs = split-at [] x xs
+
+  abbrev pub split-later : {xs : List A} (x : A) → Split xs → Split (x ∷ xs)
+  split-later x s =
+      record { before = x ∷ s .before; item = s .item; after = s .after; whole = ap (λ (ys : List A). x ∷ ys) (s .whole) }
+
 -- an entry of the list at which a number is least
 pub record Least {A : Type 0} (g : A → ℕ) (all : List A) : Type 0 where
-  pub before : List A
-  pub entry : A
-  pub after : List A
-  pub whole : all ≡ before ++ entry ∷ after
-  pub least : Each (λ (x : A). g entry ≤ g x) all
+  pub here : Split all
+  pub least : Each (λ (x : A). g (here .item) ≤ g x) all
 
 pub least-entry : {A : Type 0} (g : A → ℕ) (x : A) (xs : List A) → Least g (x ∷ xs)
-least-entry g x [] = record { before = []; entry = x; after = []; whole = refl; least = (le-refl (g x), tt) }
+least-entry g x [] = record { here = split-first x []; least = (le-refl (g x), tt) }
 least-entry {A} g x (y ∷ ys) = step (least-entry g y ys)
   where
     step : Least g (y ∷ ys) → Least g (x ∷ y ∷ ys)
-    step l = choose (decided (decides-le (g x) (g (l .entry))))
+    step l = choose (decided (decides-le (g x) (g (l .here .item))))
       where
-        choose : (g x ≤ g (l .entry)) ⊎ (¬ (g x ≤ g (l .entry))) → Least g (x ∷ y ∷ ys)
+        choose : (g x ≤ g (l .here .item)) ⊎ (¬ (g x ≤ g (l .here .item))) → Least g (x ∷ y ∷ ys)
         choose (inl low) =
             record {
-              before = [];
-              entry = x;
-              after = y ∷ ys;
-              whole = refl;
-              least = (le-refl (g x), each-map (λ (z : A). g (l .entry) ≤ g z) (λ (z : A). g x ≤ g z) (λ z h. omega arith) (y ∷ ys) (l .least));
+              here = split-first x (y ∷ ys);
+              least = (le-refl (g x), each-map (λ (z : A). g (l .here .item) ≤ g z) (λ (z : A). g x ≤ g z) (λ z h. omega arith) (y ∷ ys) (l .least));
             }
         choose (inr high) =
-            record {
-              before = x ∷ l .before;
-              entry = l .entry;
-              after = l .after;
-              whole = ap (λ (zs : List A). x ∷ zs) (l .whole);
-              least = (omega arith, l .least);
-            }
+            record { here = split-later x (l .here); least = (omega arith, l .least) }
 
 -- an entry that a list of copies lacks, read as the copy, is the copy too
 pub replicated : {A : Type 0} (n i : ℕ) (d : A) → getD (replicate n d) i d ≡ d
@@ -80,3 +80,26 @@ pub entry-there : {A : Type 0} (xs : List A) (i : ℕ) (d e : A) → i < length 
 entry-there [] i d e h = absurd (omega arith)
 entry-there (x ∷ xs) zero d e h = refl
 entry-there (x ∷ xs) (suc i) d e h = entry-there xs i d e (omega arith)
+
+-- entry number n of a list, as the definitions read it, is the one at index n - 1
+pub entry-getD : {A : Type 0} (xs : List A) (n i : ℕ) (d e : A) → i + 1 ≡ n → i < length xs → entry xs n e ≡ getD xs i d
+entry-getD xs zero i d e h room = absurd (omega arith)
+entry-getD xs (suc n) i d e h room = let same : n ≡ i = omega arith in rw same (entry-there xs i e d room)
+
+module _ {A : Type 0} (P : A → Type 0) where
+  -- what holds of everything holds of each entry
+  pub every-each : ((x : A) → P x) → (xs : List A) → Each P xs
+  every-each h [] = tt
+  every-each h (x ∷ xs) = (h x, every-each h xs)
+
+  -- what holds of each of the first n entries holds of the one at an index below n
+  pub each-getD : (xs : List A) (n i : ℕ) (d : A) → Each P (take n xs) → i < n → i < length xs → P (getD xs i d)
+  each-getD [] n i d h low room = absurd (omega arith)
+  each-getD (x ∷ xs) zero i d h low room = absurd (omega arith)
+  each-getD (x ∷ xs) (suc n) zero d h low room = h .0
+  each-getD (x ∷ xs) (suc n) (suc i) d h low room = each-getD xs n i d (h .1) (omega arith) (omega arith)
+
+pub map-take : {A B : Type 0} (f : A → B) (n : ℕ) (xs : List A) → take n (map f xs) ≡ map f (take n xs)
+map-take f zero xs = refl
+map-take f (suc n) [] = refl
+map-take f (suc n) (x ∷ xs) = ap (λ ys. f x ∷ ys) (map-take f n xs)

@@ -6,9 +6,9 @@ use native.Mathlib.Omega.{arith}
 use mathlib.Core.List.{List, [], _∷_, _++_}
 use mathlib.Core.Logic.{_≢_, _⊎_, inl, inr, ⊎-elim}
 use mathlib.Core.Path.{_≡_, refl, sym, ap, subst, _∙_}
-use Rattle.model.specs.Numbers.{InRange, sumTo, Each}
+use Rattle.model.specs.Numbers.{InRange, sumTo, Each, Split}
 use Rattle.model.specs.Plan.{rankOf, boundOf, lengthOf, IsStage, demandOf, weightOf, Demands}
-use Rattle.model.specs.Jobs.{rowSum, KeepsCapacities, KeepsRows, advancedJob, Placed}
+use Rattle.model.specs.Jobs.{rowSum, KeepsCapacities, KeepsRows, advancedJob, HasNext, advancedAt, AtStage}
 use Rattle.model.specs.Upstream.{RankedUpTo, UpstreamOf, OneUnit, UpstreamRule}
 use Rattle.model.specs.declared.Plan.{Plan}
 use Rattle.model.specs.declared.Job.{Job}
@@ -18,12 +18,12 @@ use Rattle.model.proofs.Upstream.{decides-upstream}
 use Rattle.model.proofs.Sums.{sum-single, over-stages-jobs, over-stages-moved, over-stages-removed, over-jobs-zero, over-jobs-mono}
 
 -- a list without one of its jobs keeps what the whole list keeps
-module _ (p : Plan) (xs ys : List Job) (j : Job) (placed : Placed p j) where
+module _ (p : Plan) (xs ys : List Job) (j : Job) (staged : AtStage p j) where
   pub removed-keeps-capacities : KeepsCapacities p (xs ++ j ∷ ys) → KeepsCapacities p (xs ++ ys)
-  removed-keeps-capacities h r range = omega (arith, h r range, over-stages-removed p (demandOf p r) xs ys j placed)
+  removed-keeps-capacities h r range = omega (arith, h r range, over-stages-removed p (demandOf p r) xs ys j staged)
 
   pub removed-keeps-rows : KeepsRows p (xs ++ j ∷ ys) → KeepsRows p (xs ++ ys)
-  removed-keeps-rows h w range = omega (arith, h w range, over-stages-removed p (weightOf p w) xs ys j placed)
+  removed-keeps-rows h w range = omega (arith, h w range, over-stages-removed p (weightOf p w) xs ys j staged)
 
 -- the rank of the resource that a stage demands, where it demands one unit of one
 heldRank : Plan → ℕ → ℕ → ℕ
@@ -104,39 +104,39 @@ module _ (p : Plan) (rule : UpstreamRule p) where
         step (inr other) w = omega (arith, unit .others r range other)
 
   -- the capacities follow from the rows
-  pub rows-keep-capacities : (js : List Job) → Each (Placed p) js → KeepsRows p js → KeepsCapacities p js
-  rows-keep-capacities js placed rows r range =
+  pub rows-keep-capacities : (js : List Job) → Each (AtStage p) js → KeepsRows p js → KeepsCapacities p js
+  rows-keep-capacities js staged rows r range =
       let row : InRange r (p .rows) = omega (arith, rule .as-many-rows) in
       omega (
         arith,
         rows r row,
         rule .bounds r row,
-        over-stages-jobs p (demandOf p r) js placed,
-        over-stages-jobs p (weightOf p r) js placed,
+        over-stages-jobs p (demandOf p r) js staged,
+        over-stages-jobs p (weightOf p r) js staged,
         over-jobs-mono (demandOf p r) (weightOf p r) js
-            (each-map (Placed p) (λ (j : Job). demandOf p r (j .kind) (j .stage) ≤ weightOf p r (j .kind) (j .stage)) (λ j h. demand-weight (j .kind) (j .stage) h r range) js placed),
+            (each-map (AtStage p) (λ (j : Job). demandOf p r (j .kind) (j .stage) ≤ weightOf p r (j .kind) (j .stage)) (λ j h. demand-weight (j .kind) (j .stage) h r range) js staged),
       )
 
   abbrev rankHeldBy : Job → ℕ
   rankHeldBy j = heldRank p (j .kind) (j .stage)
 
   -- the job of lowest rank keeps every row as it advances
-  module _ (xs ys : List Job) (j : Job) (placed : Each (Placed p) (xs ++ j ∷ ys)) (rows : KeepsRows p (xs ++ j ∷ ys)) (least : Each (λ (i : Job). rankHeldBy j ≤ rankHeldBy i) (xs ++ j ∷ ys)) (next : j .stage < lengthOf p (j .kind)) where
-    here : Placed p j
-    here = each-at (Placed p) xs j ys placed
+  module _ (xs ys : List Job) (j : Job) (staged : Each (AtStage p) (xs ++ j ∷ ys)) (rows : KeepsRows p (xs ++ j ∷ ys)) (least : Each (λ (i : Job). rankHeldBy j ≤ rankHeldBy i) (xs ++ j ∷ ys)) (next : j .stage < lengthOf p (j .kind)) where
+    here : AtStage p j
+    here = each-at (AtStage p) xs j ys staged
 
-    there : Placed p (advancedJob p j)
+    there : AtStage p (advancedJob p j)
     there = (here .0, omega arith)
 
     -- nobody is counted in the row of a resource below the lowest rank held
     uncounted : (r : ℕ) → InRange r (p .resources) → rankOf p r < rankHeldBy j → rowSum p r (xs ++ j ∷ ys) ≡ 0
     uncounted r range low =
-        over-stages-jobs p (weightOf p r) (xs ++ j ∷ ys) placed
+        over-stages-jobs p (weightOf p r) (xs ++ j ∷ ys) staged
         ∙ over-jobs-zero (weightOf p r) (xs ++ j ∷ ys)
-        (each-map (λ (i : Job). Placed p i × (rankHeldBy j ≤ rankHeldBy i)) (λ (i : Job). weightOf p r (i .kind) (i .stage) ≡ 0) none (xs ++ j ∷ ys)
-        (each-both (Placed p) (λ (i : Job). rankHeldBy j ≤ rankHeldBy i) (xs ++ j ∷ ys) placed least))
+        (each-map (λ (i : Job). AtStage p i × (rankHeldBy j ≤ rankHeldBy i)) (λ (i : Job). weightOf p r (i .kind) (i .stage) ≡ 0) none (xs ++ j ∷ ys)
+        (each-both (AtStage p) (λ (i : Job). rankHeldBy j ≤ rankHeldBy i) (xs ++ j ∷ ys) staged least))
       where
-        none : (i : Job) → Placed p i × (rankHeldBy j ≤ rankHeldBy i) → weightOf p r (i .kind) (i .stage) ≡ 0
+        none : (i : Job) → AtStage p i × (rankHeldBy j ≤ rankHeldBy i) → weightOf p r (i .kind) (i .stage) ≡ 0
         none i h =
             ⊎-elim (λ counted. absurd (omega (arith, upstream-rank (i .kind) (i .stage) (h .0) r range (counted .0), h .1))) (λ free. free .1)
             (weight-cases (i .kind) (i .stage) (h .0) r range)
@@ -162,38 +162,34 @@ module _ (p : Plan) (rule : UpstreamRule p) where
 
   -- a job whose advance, if it has a next stage, keeps every capacity and every row
   pub record FreeJob (js : List Job) : Type 0 where
-    pub before : List Job
-    pub job : Job
-    pub after : List Job
-    pub whole : js ≡ before ++ job ∷ after
-    pub capacities : job .stage < lengthOf p (job .kind) → KeepsCapacities p (before ++ advancedJob p job ∷ after)
-    pub rows : job .stage < lengthOf p (job .kind) → KeepsRows p (before ++ advancedJob p job ∷ after)
+    pub here : Split js
+    pub capacities : HasNext p (here .item) → KeepsCapacities p (advancedAt p here)
+    pub rows : HasNext p (here .item) → KeepsRows p (advancedAt p here)
 
-  pub progress : (js : List Job) → js ≢ [] → Each (Placed p) js → KeepsRows p js → FreeJob js
-  progress [] some placed rows = absurd (some refl)
-  progress (x ∷ js) some placed rows = free (least-entry rankHeldBy x js)
+  pub progress : (js : List Job) → js ≢ [] → Each (AtStage p) js → KeepsRows p js → FreeJob js
+  progress [] some staged rows = absurd (some refl)
+  progress (x ∷ js) some staged rows = free (least-entry rankHeldBy x js)
     where
       free : Least rankHeldBy (x ∷ js) → FreeJob (x ∷ js)
       free l =
           record {
-            before = l .before;
-            job = l .entry;
-            after = l .after;
-            whole = l .whole;
-            capacities = λ next. rows-keep-capacities moved (each-moved (Placed p) (l .before) (l .entry) (advancedJob p (l .entry)) (l .after) (there-of next) placed′) (kept next);
+            here = l .here;
+            capacities = λ next. rows-keep-capacities (advancedAt p (l .here)) (staged-next next) (kept next);
             rows = kept;
           }
         where
-          moved : List Job
-          moved = l .before ++ advancedJob p (l .entry) ∷ l .after
+          staged′ : Each (AtStage p) (l .here .before ++ l .here .item ∷ l .here .after)
+          staged′ = subst (Each (AtStage p)) (l .here .whole) staged
 
-          placed′ : Each (Placed p) (l .before ++ l .entry ∷ l .after)
-          placed′ = subst (Each (Placed p)) (l .whole) placed
+          least : Each (λ (i : Job). rankHeldBy (l .here .item) ≤ rankHeldBy i) (l .here .before ++ l .here .item ∷ l .here .after)
+          least = subst (Each (λ (i : Job). rankHeldBy (l .here .item) ≤ rankHeldBy i)) (l .here .whole) (l .least)
 
-          kept : l .entry .stage < lengthOf p (l .entry .kind) → KeepsRows p moved
+          kept : HasNext p (l .here .item) → KeepsRows p (advancedAt p (l .here))
           kept next =
-              advance-keeps-rows (l .before) (l .after) (l .entry) placed′ (subst (KeepsRows p) (l .whole) rows)
-              (subst (Each (λ (i : Job). rankHeldBy (l .entry) ≤ rankHeldBy i)) (l .whole) (l .least)) next
+              let rows′ = subst (KeepsRows p) (l .here .whole) rows in
+              advance-keeps-rows (l .here .before) (l .here .after) (l .here .item) staged′ rows′ least next
 
-          there-of : l .entry .stage < lengthOf p (l .entry .kind) → Placed p (advancedJob p (l .entry))
-          there-of next = (each-at (Placed p) (l .before) (l .entry) (l .after) placed′ .0, omega arith)
+          staged-next : HasNext p (l .here .item) → Each (AtStage p) (advancedAt p (l .here))
+          staged-next next =
+              let here = each-at (AtStage p) (l .here .before) (l .here .item) (l .here .after) staged′ in
+              each-moved (AtStage p) (l .here .before) (l .here .item) (advancedJob p (l .here .item)) (l .here .after) (here .0, omega arith) staged′

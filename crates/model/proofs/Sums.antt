@@ -10,7 +10,7 @@ use lib.Dec.{eqb}
 use borrow.Author.Tests.{eq-eqb, ne-eqb}
 use Rattle.model.specs.Numbers.{InRange, sumTo, Each}
 use Rattle.model.specs.Plan.{lengthOf}
-use Rattle.model.specs.Jobs.{isAt, jobsAt, overStages, overJobs, Placed}
+use Rattle.model.specs.Jobs.{isAt, jobsAt, overStages, overJobs, AtStage}
 use Rattle.model.specs.declared.Plan.{Plan}
 use Rattle.model.specs.declared.Job.{Job}
 use Rattle.model.proofs.Decide.{Decides, decides-eq, decides-iff, extend}
@@ -76,7 +76,7 @@ module _ (p : Plan) (f : ℕ → ℕ → ℕ) where
       spread : (t k : ℕ) → f t k * jobsAt (xs ++ ys) t k ≡ f t k * jobsAt xs t k + f t k * jobsAt ys t k
       spread t k = rw (jobs-at-append xs ys t k) (omega arith)
 
-  pub over-stages-one : (j : Job) → Placed p j → overStages p f (j ∷ []) ≡ f (j .kind) (j .stage)
+  pub over-stages-one : (j : Job) → AtStage p j → overStages p f (j ∷ []) ≡ f (j .kind) (j .stage)
   unfolding overStages
   over-stages-one j h =
       sum-single (λ (t : ℕ). sumTo (lengthOf p t) (part t)) (p .types) (j .kind) (h .0) other-type
@@ -100,20 +100,20 @@ module _ (p : Plan) (f : ℕ → ℕ → ℕ) where
   over-stages-none = sum-zero _ (p .types) (λ t r. sum-zero _ (lengthOf p t) (λ k s. omega arith))
 
   -- the sum over stages is the sum over jobs
-  pub over-stages-jobs : (js : List Job) → Each (Placed p) js → overStages p f js ≡ overJobs f js
+  pub over-stages-jobs : (js : List Job) → Each (AtStage p) js → overStages p f js ≡ overJobs f js
   over-stages-jobs [] h = over-stages-none
   over-stages-jobs (j ∷ js) h =
       over-stages-append (j ∷ []) js ∙ omega (arith, over-stages-one j (h .0), over-stages-jobs js (h .1))
 
   -- how it changes when one job is added, removed or moved
-  pub over-stages-added : (js : List Job) (j : Job) → Placed p j → overStages p f (js ++ j ∷ []) ≡ overStages p f js + f (j .kind) (j .stage)
+  pub over-stages-added : (js : List Job) (j : Job) → AtStage p j → overStages p f (js ++ j ∷ []) ≡ overStages p f js + f (j .kind) (j .stage)
   over-stages-added js j h = omega (arith, over-stages-append js (j ∷ []), over-stages-one j h)
 
-  pub over-stages-removed : (xs ys : List Job) (j : Job) → Placed p j → overStages p f (xs ++ j ∷ ys) ≡ overStages p f (xs ++ ys) + f (j .kind) (j .stage)
+  pub over-stages-removed : (xs ys : List Job) (j : Job) → AtStage p j → overStages p f (xs ++ j ∷ ys) ≡ overStages p f (xs ++ ys) + f (j .kind) (j .stage)
   over-stages-removed xs ys j h =
       omega (arith, over-stages-append xs (j ∷ ys), over-stages-append (j ∷ []) ys, over-stages-append xs ys, over-stages-one j h)
 
-  pub over-stages-moved : (xs ys : List Job) (i j : Job) → Placed p i → Placed p j → overStages p f (xs ++ j ∷ ys) + f (i .kind) (i .stage) ≡ overStages p f (xs ++ i ∷ ys) + f (j .kind) (j .stage)
+  pub over-stages-moved : (xs ys : List Job) (i j : Job) → AtStage p i → AtStage p j → overStages p f (xs ++ j ∷ ys) + f (i .kind) (i .stage) ≡ overStages p f (xs ++ i ∷ ys) + f (j .kind) (j .stage)
   over-stages-moved xs ys i j h k = omega (arith, over-stages-removed xs ys i h, over-stages-removed xs ys j k)
 
 -- the same of the sum over jobs

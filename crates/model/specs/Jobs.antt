@@ -1,12 +1,12 @@
 -- Jobs in the order they were loaded: what they hold, how a list of them changes, and when it agrees with a plan.
 -- Over resources and rows jobs meet only in the sums below (Condition 4 of source document 003).
-use Prim.Native.Nat.{ℕ, _+_, _*_, _≤_}
+use Prim.Native.Nat.{ℕ, _+_, _*_, _≤_, _<_}
 use mathlib.Core.Bool.{Bool, true, false, cond, not, _&&_, _||_}
 use mathlib.Core.List.{List, [], _∷_, _++_, map}
 use mathlib.Core.Path.{_≡_}
-use lib.Dec.{leb, eqb}
+use lib.Dec.{leb, ltb, eqb}
 use Rattle.model.specs.Limits.{maxNumber}
-use Rattle.model.specs.Numbers.{InRange, inRange, at, sumTo, lowest, Lowest, Each, each, Distinct}
+use Rattle.model.specs.Numbers.{InRange, inRange, at, sumTo, lowest, Lowest, Each, each, Split, Distinct}
 use Rattle.model.specs.Plan.{lengthOf, IsStage, demandOf, weightOf, capacityOf, boundOf, stageAfter}
 use Rattle.model.specs.declared.Plan.{Plan}
 use Rattle.model.specs.declared.Job.{Job}
@@ -62,11 +62,8 @@ broken p js = lowest (p .rows) (λ (w : ℕ). leb (overJobs (weightOf p w) js) (
 
 -- the number is active (document 01's term): a job of the list has it; with what stands before and after that job
 pub record Active (n : ℕ) (js : List Job) : Type 0 where
-  pub before : List Job
-  pub job : Job
-  pub after : List Job
-  pub whole : js ≡ before ++ job ∷ after
-  pub numbered : job .number ≡ n
+  pub here : Split js
+  pub numbered : here .item .number ≡ n
 
 -- the same, computed: is the number active, and which job has it
 abbrev pub hasNumber : ℕ → Job → Bool
@@ -87,7 +84,28 @@ loadedJob n t = record { number = n; kind = t; stage = 1 }
 abbrev pub advancedJob : Plan → Job → Job
 advancedJob p j = record { number = j .number; kind = j .kind; stage = stageAfter p (j .kind) (j .stage) }
 
--- the list after a load, an advance and an unload: a load comes last, an advance keeps its place, an unload closes the gap
+-- a job has a next stage, and a job is at its last stage
+abbrev pub HasNext : Plan → Job → Type 0
+HasNext p j = j .stage < lengthOf p (j .kind)
+
+abbrev pub IsLast : Plan → Job → Type 0
+IsLast p j = j .stage ≡ lengthOf p (j .kind)
+
+-- their tests
+abbrev pub hasNext : Plan → Job → Bool
+hasNext p j = ltb (j .stage) (lengthOf p (j .kind))
+
+abbrev pub isLast : Plan → Job → Bool
+isLast p j = eqb (j .stage) (lengthOf p (j .kind))
+
+-- the list with one of its jobs advanced, and without it
+abbrev pub advancedAt : Plan → {js : List Job} → Split js → List Job
+advancedAt p s = s .before ++ advancedJob p (s .item) ∷ s .after
+
+abbrev pub removedAt : {js : List Job} → Split js → List Job
+removedAt s = s .before ++ s .after
+
+-- the same, computed by the job's number: a load comes last, an advance keeps its place, an unload closes the gap
 abbrev pub loaded : ℕ → ℕ → List Job → List Job
 loaded n t js = js ++ loadedJob n t ∷ []
 
@@ -106,14 +124,14 @@ numbers js = map (λ (j : Job). j .number) js
 abbrev pub Numbered : Job → Type 0
 Numbered j = InRange (j .number) maxNumber
 
-abbrev pub Placed : Plan → Job → Type 0
-Placed p j = IsStage p (j .kind) (j .stage)
+abbrev pub AtStage : Plan → Job → Type 0
+AtStage p j = IsStage p (j .kind) (j .stage)
 
 -- the jobs agree with the plan: what document 01 asks of the jobs of an agreeing table
 pub record Agreeing (p : Plan) (js : List Job) : Type 0 where
   pub numbered : Each Numbered js
   pub distinct : Distinct (numbers js)
-  pub placed : Each (Placed p) js
+  pub staged : Each (AtStage p) js
   pub capacities : KeepsCapacities p js
   pub rows : KeepsRows p js
 

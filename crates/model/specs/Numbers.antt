@@ -1,7 +1,8 @@
 -- Entries, sums, tests and searches over the numbers 1 to n; the same over the entries of a list.
 use Prim.Native.Nat.{ℕ, zero, suc, _+_, _≤_, _<_}
 use mathlib.Core.Bool.{Bool, true, false, cond, _&&_, _||_}
-use mathlib.Core.List.{List, [], _∷_}
+use mathlib.Core.List.{List, [], _∷_, _++_}
+use mathlib.Core.Path.{_≡_}
 use mathlib.Core.Logic.{_≢_}
 use lib.ListN.{getD}
 use lib.Dec.{leb, eqb}
@@ -57,6 +58,13 @@ Each P (x ∷ xs) = P x × Each P xs
 abbrev pub each : {A : Type 0} → (A → Bool) → List A → Bool
 each f [] = true
 each f (x ∷ xs) = f x && each f xs
+
+-- a list split at one of its entries
+pub record Split {A : Type 0} (xs : List A) : Type 0 where
+  pub before : List A
+  pub item : A
+  pub after : List A
+  pub whole : xs ≡ before ++ item ∷ after
 
 -- no number of the list stands in it twice
 abbrev pub Distinct : List ℕ → Type 0

@@ -1,10 +1,10 @@
 // The published number and places of each answer, for whoever prints them.
 ghost use mathlib.Core.Path.{_≡_};
 ghost use Rattle.model.specs.Upstream.{checkNumbers};
-ghost use Rattle.admission.specs.Events.{answerNumbers};
-ghost use Rattle.admission.specs.Drain.{endNumber};
-use admission::Answer;
-use admission::End;
+ghost use Rattle.events.specs.Events.{answerNumbers};
+ghost use Rattle.events.specs.Drain.{endNumber};
+use events::Answer;
+use events::End;
 use model::Check;
 
 pub fn answer_number(a: Answer) -> u32

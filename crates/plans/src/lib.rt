@@ -1,14 +1,8 @@
-// What is asked of a plan by itself: is it sound, and does it meet the upstream rule. Any bit pattern may be asked.
+// The empty plan, from which a plan is filled in.
 ghost use mathlib.Core.Path.{_≡_};
 ghost use Rattle.model.specs.Plan.{emptyPlan};
 use model::Plan;
 use model::Stage;
-
-mod sound;
-mod upstream;
-
-pub use sound::is_sound;
-pub use upstream::upstream_check;
 
 // The plan with nothing in it; it is not sound.
 pub fn empty_plan() -> Plan

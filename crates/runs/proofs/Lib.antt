@@ -1,4 +1,3 @@
--- The laws of the ledger and of runs, and the emptying theorem. Read in this order.
-pub mod Ledger
-pub mod Emptying
-pub mod Listed
+-- How a run goes event by event, and the emptying rule of what it returns.
+pub mod EventByEvent
+pub mod RunEmptied

@@ -1,4 +1,3 @@
--- Whole lists of events and what is claimed of them, to be read in this order.
-pub mod Ledger
+-- What a run hands back, and what is claimed of it.
 pub mod Run
-pub mod Emptying
+pub mod RunRule

@@ -1,11 +1,11 @@
 // A whole list of events run through the entrances, by their contracts alone.
 ghost use mathlib.Core.Path.{_≡_};
 ghost use mathlib.Core.Bool.{cond};
-ghost use Rattle.admission.specs.Events.{isAdmitted};
+ghost use Rattle.events.specs.Events.{isAdmitted};
 ghost use Rattle.runs.specs.Run.{eventOf, eventsOf, ran};
-use admission::Answer;
 use admission::Outcome;
 use admission::Table;
+use events::Answer;
 use model::Plan;
 use numbers::answer_number;
 

@@ -5,12 +5,14 @@ use Rattle.model.specs.Plan.{isStage, allStages, stageOf, demandOf, weightOf}
 use Rattle.model.specs.Jobs.{overStages, exceeded, broken, fits, agreeing}
 use Rattle.model.specs.Soundness.{soundCounts, soundCapacities, soundRanks, soundLengths, soundBounds, soundStage, sound}
 use Rattle.model.specs.Upstream.{rankedUpTo, upstreamOf, oneUnit, faultyStage, faultyType, upstreamRow, faultyRow, faultyBound, check}
-use Rattle.admission.specs.Table.{tableOf, agrees}
-use Rattle.admission.specs.Events.{answer, tableAfter}
-use Rattle.admission.specs.Drain.{drainFrom, drain}
+use Rattle.events.specs.JobList.{listOf, agrees}
+use Rattle.events.specs.Events.{answer, listAfter}
+use Rattle.events.specs.Drain.{drainFrom, listDrain}
 use Rattle.worked.specs.Plans.{crossingWith, crossingPlan, equation40, withoutRows, oneStation, jobsPerStage}
 use Rattle.worked.specs.Runs.{Row, result, rows}
 
 pub every-row-holds : map (λ (r : Row). result (r .asked)) rows ≡ map (λ (r : Row). r .expected) rows
-unfolding allStages stageOf demandOf weightOf overStages exceeded broken isStage fits agreeing soundCounts soundCapacities soundRanks soundLengths soundBounds soundStage sound rankedUpTo upstreamOf oneUnit faultyStage faultyType upstreamRow faultyRow faultyBound check tableOf agrees answer tableAfter drainFrom drain crossingWith crossingPlan equation40 withoutRows oneStation jobsPerStage result rows
+unfolding allStages stageOf demandOf weightOf overStages exceeded broken isStage fits agreeing soundCounts soundCapacities soundRanks soundLengths
+    soundBounds soundStage sound rankedUpTo upstreamOf oneUnit faultyStage faultyType upstreamRow faultyRow faultyBound check listOf agrees
+    answer listAfter drainFrom listDrain crossingWith crossingPlan equation40 withoutRows oneStation jobsPerStage result rows
 every-row-holds = refl

@@ -7,12 +7,12 @@ use Rattle.model.specs.Upstream.{check, checkNumbers}
 use Rattle.model.specs.Jobs.{rowSum, broken}
 use Rattle.model.specs.declared.Plan.{Plan}
 use Rattle.model.specs.declared.Job.{Job}
-use Rattle.admission.specs.Table.{tableOf, jobsOf, emptyTable}
-use Rattle.admission.specs.Events.{answer, tableAfter, answerNumbers}
-use Rattle.admission.specs.Drain.{drain, endNumber}
-use Rattle.admission.specs.declared.Table.{Table}
-use Rattle.admission.specs.declared.Event.{Event}
-use Rattle.admission.specs.declared.Event.the-variants.{Load, Advance, Unload}
+use Rattle.events.specs.JobList.{listOf, jobsOf, emptyList}
+use Rattle.events.specs.Events.{answer, listAfter, answerNumbers}
+use Rattle.events.specs.Drain.{listDrain, endNumber}
+use Rattle.events.specs.declared.JobList.{JobList}
+use Rattle.events.specs.declared.Event.{Event}
+use Rattle.events.specs.declared.Event.the-variants.{Load, Advance, Unload}
 use Rattle.worked.specs.Plans.{crossingWith, crossingPlan, equation40, withoutRows, oneStation, jobsPerStage}
 
 -- what is asked
@@ -31,11 +31,11 @@ stagesOf : List Job → List ℕ
 stagesOf js = map (λ (j : Job). j .stage) js
 
 -- of each event its answer, its place and the jobs active afterwards
-lines : Plan → Table → List Event → List ℕ
+lines : Plan → JobList → List Event → List ℕ
 lines p t [] = []
 lines p t (e ∷ es) =
     let a = answerNumbers (answer p t e) in
-    let next = tableAfter p t e in
+    let next = listAfter p t e in
     a .0 ∷ a .1 ∷ next .count ∷ lines p next es
 
 -- the numbers that the definitions give: of a check its answer and two places; of jobs against the rows each row's sum
@@ -46,12 +46,12 @@ unfolding sums stagesOf lines
 result (checked p) = let c = checkNumbers (check p) in c .0 ∷ c .1 ∷ c .2 ∷ []
 result (weighed p js) = sums p js (p .rows) ++ broken p js ∷ []
 result (drained p js budget) =
-    let d = drain p (tableOf js) budget in
-    endNumber (d .end) ∷ d .moves ∷ stagesOf (jobsOf (d .table))
+    let d = listDrain p (listOf js) budget in
+    endNumber (d .end) ∷ d .moves ∷ stagesOf (jobsOf (d .list))
 result (answered p js e) =
-    let a = answerNumbers (answer p (tableOf js) e) in
-    a .0 ∷ a .1 ∷ stagesOf (jobsOf (tableAfter p (tableOf js) e))
-result (followed p es) = lines p emptyTable es
+    let a = answerNumbers (answer p (listOf js) e) in
+    a .0 ∷ a .1 ∷ stagesOf (jobsOf (listAfter p (listOf js) e))
+result (followed p es) = lines p emptyList es
 
 pub record Row : Type 0 where
   pub asked : Run

@@ -1,28 +1,50 @@
 -- Nothing has to hold from turn to turn.
+use Prim.Native.Nat.{_-_}
 use borrow.Author.Needs.{needs}
 use Rattle.cell_states.proofs.print_states.Statement.{statement}
 use Rattle.cell_states.proofs.print_states.Tie as tie
 
 abbrev Inv-loop : tie.InvT-loop
-Inv-loop markings marking₀ left₀ marking left = Unit {0}
+Inv-loop found kept emptied i₀ i = Unit {0}
 
 abbrev μ-loop : tie.MeasureT-loop
-μ-loop markings marking₀ left₀ marking left = left
+μ-loop found kept emptied i₀ i = 47 - i
 
 loop-holds : tie.Need-loop-holds Inv-loop μ-loop
 loop-holds c = search needs
 
-print-state-requires : tie.Need-print-state-requires Inv-loop μ-loop
-print-state-requires c κs = search needs
+shr-if1 : tie.Need-shr-if1 Inv-loop μ-loop
+shr-if1 c = search needs
 
-next-above-requires : tie.Need-next-above-requires Inv-loop μ-loop
-next-above-requires c κs = search needs
+mul-marking : tie.Need-mul-marking Inv-loop μ-loop
+mul-marking c = search needs
 
-returns : tie.Need-returns Inv-loop μ-loop
-returns c = search needs
+array-read-marking : tie.Need-array-read-marking Inv-loop μ-loop
+array-read-marking c = search needs
 
-sub-left : tie.Need-sub-left Inv-loop μ-loop
-sub-left c = search needs
+print-field-requires : tie.Need-print-field-requires Inv-loop μ-loop
+print-field-requires c κs = search needs
+
+print-counts-requires : tie.Need-print-counts-requires Inv-loop μ-loop
+print-counts-requires c κs = search needs
+
+print-sums-requires : tie.Need-print-sums-requires Inv-loop μ-loop
+print-sums-requires c κs = search needs
+
+shr-print-field : tie.Need-shr-print-field Inv-loop μ-loop
+shr-print-field c = search needs
+
+print-field-requires-2 : tie.Need-print-field-requires-2 Inv-loop μ-loop
+print-field-requires-2 c κs = search needs
+
+shr-print-field-2 : tie.Need-shr-print-field-2 Inv-loop μ-loop
+shr-print-field-2 c = search needs
+
+print-field-requires-3 : tie.Need-print-field-requires-3 Inv-loop μ-loop
+print-field-requires-3 c κs = search needs
+
+add-i : tie.Need-add-i Inv-loop μ-loop
+add-i c = search needs
 
 loop-less : tie.Need-loop-less Inv-loop μ-loop
 loop-less c = search needs
@@ -30,8 +52,8 @@ loop-less c = search needs
 loop-again : tie.Need-loop-again Inv-loop μ-loop
 loop-again c = search needs
 
-returns-2 : tie.Need-returns-2 Inv-loop μ-loop
-returns-2 c = search needs
+returns : tie.Need-returns Inv-loop μ-loop
+returns c = search needs
 
 pub print-states-spec : {M : Type 1} → statement M
 print-states-spec =
@@ -40,10 +62,17 @@ print-states-spec =
     Inv-loop
     μ-loop
     loop-holds
-    print-state-requires
-    next-above-requires
-    returns
-    sub-left
+    shr-if1
+    mul-marking
+    array-read-marking
+    print-field-requires
+    print-counts-requires
+    print-sums-requires
+    shr-print-field
+    print-field-requires-2
+    shr-print-field-2
+    print-field-requires-3
+    add-i
     loop-less
     loop-again
-    returns-2)
+    returns)

@@ -6,7 +6,7 @@ use borrow.Author.Tests.{ltb-true, ltb-false}
 use lib.ListN.{length, drop, getD}
 use Rattle.runs.specs.Run.{eventsOf, ran}
 use Rattle.runs.specs.declared.Ran.{Ran}
-use Rattle.runs.proofs.Listed.{after, after-none, after-nothing, run-step, admitted-one, letters-end, jobs-end, kinds-end}
+use Rattle.runs.proofs.EventByEvent.{after, after-none, after-nothing, run-step, admitted-one, letters-end, jobs-end, kinds-end}
 use borrow.Author.Needs.{needs}
 use Rattle.runs.proofs.run.Statement.{statement}
 use Rattle.runs.proofs.run.Tie as tie

@@ -1,8 +1,8 @@
 -- The letter says which event is run, if any.
 use mathlib.Core.Path.{refl}
 use borrow.Author.Tests.{eq-eqb, ne-eqb}
-use Rattle.admission.specs.declared.Event.the-variants.{Load, Advance, Unload}
-use Rattle.runs.proofs.Listed.{run-one}
+use Rattle.events.specs.declared.Event.the-variants.{Load, Advance, Unload}
+use Rattle.runs.proofs.EventByEvent.{run-one}
 use borrow.Author.Needs.{needs}
 use Rattle.runs.proofs.step.Statement.{statement}
 use Rattle.runs.proofs.step.Tie as tie

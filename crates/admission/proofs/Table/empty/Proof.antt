@@ -1,11 +1,11 @@
--- The table written out is the table of no jobs.
+-- The list written out is that of no jobs.
 use mathlib.Core.Path.{refl}
-use Rattle.admission.specs.Table.{tableOf}
+use Rattle.events.specs.JobList.{listOf}
 use Rattle.admission.proofs.Table.empty.Statement.{statement}
 use Rattle.admission.proofs.Table.empty.Tie as tie
 
 returns : tie.Need-returns
-unfolding tableOf
+unfolding listOf
 returns c = refl
 
 pub empty-spec : {M : Type 1} → statement M

@@ -1,23 +1,22 @@
 -- Nothing has to hold from turn to turn.
-use Prim.Native.Nat.{_-_}
 use borrow.Author.Needs.{needs}
 use Rattle.cell_states.proofs.emptying.emptied.Statement.{statement}
 use Rattle.cell_states.proofs.emptying.emptied.Tie as tie
 
 abbrev Inv-loop : tie.InvT-loop
-Inv-loop moves set₀ round₀ set round = Unit {0}
+Inv-loop s p set₀ left₀ set left = Unit {0}
 
 abbrev μ-loop : tie.MeasureT-loop
-μ-loop moves set₀ round₀ set round = 64 - round
+μ-loop s p set₀ left₀ set left = left
 
 loop-holds : tie.Need-loop-holds Inv-loop μ-loop
 loop-holds c = search needs
 
-widened-requires : tie.Need-widened-requires Inv-loop μ-loop
-widened-requires c κs = search needs
+leading-into-requires : tie.Need-leading-into-requires Inv-loop μ-loop
+leading-into-requires c κs = search needs
 
-add-round : tie.Need-add-round Inv-loop μ-loop
-add-round c = search needs
+sub-left : tie.Need-sub-left Inv-loop μ-loop
+sub-left c = search needs
 
 loop-less : tie.Need-loop-less Inv-loop μ-loop
 loop-less c = search needs
@@ -31,4 +30,12 @@ returns c = search needs
 pub emptied-spec : {M : Type 1} → statement M
 emptied-spec =
     tie.close
-    (tie.spec Inv-loop μ-loop loop-holds widened-requires add-round loop-less loop-again returns)
+    (tie.spec
+    Inv-loop
+    μ-loop
+    loop-holds
+    leading-into-requires
+    sub-left
+    loop-less
+    loop-again
+    returns)

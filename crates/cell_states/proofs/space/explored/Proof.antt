@@ -1,14 +1,13 @@
 -- Nothing has to hold from turn to turn.
-use Prim.Native.Nat.{_-_}
 use borrow.Author.Needs.{needs}
 use Rattle.cell_states.proofs.space.explored.Statement.{statement}
 use Rattle.cell_states.proofs.space.explored.Tie as tie
 
 abbrev Inv-loop : tie.InvT-loop
-Inv-loop p s₀ from₀ s from = Unit {0}
+Inv-loop p s₀ done₀ left₀ s done left = Unit {0}
 
 abbrev μ-loop : tie.MeasureT-loop
-μ-loop p s₀ from₀ s from = 64 - from
+μ-loop p s₀ done₀ left₀ s done left = left
 
 empty-cell-requires : tie.Need-empty-cell-requires Inv-loop μ-loop
 empty-cell-requires c κs = search needs
@@ -16,11 +15,23 @@ empty-cell-requires c κs = search needs
 loop-holds : tie.Need-loop-holds Inv-loop μ-loop
 loop-holds c = search needs
 
+u32-to-usize-requires : tie.Need-u32-to-usize-requires Inv-loop μ-loop
+u32-to-usize-requires c κs = search needs
+
+mul-followed : tie.Need-mul-followed Inv-loop μ-loop
+mul-followed c = search needs
+
+element-copy-out-followed : tie.Need-element-copy-out-followed Inv-loop μ-loop
+element-copy-out-followed c = search needs
+
 followed-requires : tie.Need-followed-requires Inv-loop μ-loop
 followed-requires c κs = search needs
 
-add-from : tie.Need-add-from Inv-loop μ-loop
-add-from c = search needs
+shl-done : tie.Need-shl-done Inv-loop μ-loop
+shl-done c = search needs
+
+sub-left : tie.Need-sub-left Inv-loop μ-loop
+sub-left c = search needs
 
 loop-less : tie.Need-loop-less Inv-loop μ-loop
 loop-less c = search needs
@@ -39,8 +50,12 @@ explored-spec =
     μ-loop
     empty-cell-requires
     loop-holds
+    u32-to-usize-requires
+    mul-followed
+    element-copy-out-followed
     followed-requires
-    add-from
+    shl-done
+    sub-left
     loop-less
     loop-again
     returns)

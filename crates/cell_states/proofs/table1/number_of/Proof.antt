@@ -1,11 +1,11 @@
--- Nothing has to hold from turn to turn.
-use Prim.Native.Nat.{_-_}
+-- The number is at most the count of the states.
+use Prim.Native.Nat.{_-_, _≤_}
 use borrow.Author.Needs.{needs}
 use Rattle.cell_states.proofs.table1.number_of.Statement.{statement}
 use Rattle.cell_states.proofs.table1.number_of.Tie as tie
 
 abbrev Inv-loop : tie.InvT-loop
-Inv-loop marking i₀ i = Unit {0}
+Inv-loop marking i₀ i = i ≤ 47
 
 abbrev μ-loop : tie.MeasureT-loop
 μ-loop marking i₀ i = 47 - i
@@ -18,9 +18,6 @@ mul-if1 c = search needs
 
 array-read-if1 : tie.Need-array-read-if1 Inv-loop μ-loop
 array-read-if1 c = search needs
-
-cast-result : tie.Need-cast-result Inv-loop μ-loop
-cast-result c = search needs
 
 returns : tie.Need-returns Inv-loop μ-loop
 returns c = search needs
@@ -46,7 +43,6 @@ number-of-spec =
     loop-holds
     mul-if1
     array-read-if1
-    cast-result
     returns
     add-i
     loop-less

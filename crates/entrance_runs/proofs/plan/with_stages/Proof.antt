@@ -5,22 +5,22 @@ use Rattle.entrance_runs.proofs.plan.with_stages.Statement.{statement}
 use Rattle.entrance_runs.proofs.plan.with_stages.Tie as tie
 
 abbrev Inv-loop : tie.InvT-loop
-Inv-loop n first next₀ at₀ next at = Unit {0}
+Inv-loop n first n' next₀ at₀ next at = Unit {0}
 
 abbrev μ-loop : tie.MeasureT-loop
-μ-loop n first next₀ at₀ next at = 128 - at
+μ-loop n first n' next₀ at₀ next at = n - at
 
-element-copy-out-first : tie.Need-element-copy-out-first Inv-loop μ-loop
-element-copy-out-first c = search needs
+stage-at-requires : tie.Need-stage-at-requires Inv-loop μ-loop
+stage-at-requires c κs = search needs
+
+cast-n : tie.Need-cast-n Inv-loop μ-loop
+cast-n c = search needs
 
 loop-holds : tie.Need-loop-holds Inv-loop μ-loop
 loop-holds c = search needs
 
-mul-first : tie.Need-mul-first Inv-loop μ-loop
-mul-first c = search needs
-
-element-set-from-first : tie.Need-element-set-from-first Inv-loop μ-loop
-element-set-from-first c = search needs
+with-stage-requires : tie.Need-with-stage-requires Inv-loop μ-loop
+with-stage-requires c κs = search needs
 
 add-at : tie.Need-add-at Inv-loop μ-loop
 add-at c = search needs
@@ -40,10 +40,10 @@ with-stages-spec =
     (tie.spec
     Inv-loop
     μ-loop
-    element-copy-out-first
+    stage-at-requires
+    cast-n
     loop-holds
-    mul-first
-    element-set-from-first
+    with-stage-requires
     add-at
     loop-less
     loop-again

@@ -1,0 +1,61 @@
+-- What the entries from i on say is what all of them say.
+use Prim.Native.Nat.{ℕ, _-_}
+use mathlib.Core.Path.{_≡_, refl, sym, _∙_}
+use mathlib.Core.Bool.{not}
+use lib.Dec.{eqb}
+use lib.ListN.{length, drop}
+use borrow.Author.Tests.{eq-eqb, ne-eqb}
+use Rattle.model.specs.Numbers.{each}
+use Rattle.model.proofs.Search.{each-here, each-end}
+use borrow.Author.Needs.{needs}
+use Rattle.agreement.proofs.none_equals.Statement.{statement}
+use Rattle.agreement.proofs.none_equals.Tie as tie
+
+abbrev Inv-loop : tie.InvT-loop
+Inv-loop ns n i₀ i = each (λ (m : ℕ). not (eqb m n)) ns ≡ each (λ (m : ℕ). not (eqb m n)) (drop i ns)
+
+abbrev μ-loop : tie.MeasureT-loop
+μ-loop ns n i₀ i = length ns - i
+
+loop-holds : tie.Need-loop-holds Inv-loop μ-loop
+loop-holds c = refl
+
+mul-if1 : tie.Need-mul-if1 Inv-loop μ-loop
+mul-if1 c = search needs
+
+shared-slice-read-if1 : tie.Need-shared-slice-read-if1 Inv-loop μ-loop
+shared-slice-read-if1 c = search needs
+
+returns : tie.Need-returns Inv-loop μ-loop
+returns c =
+    let l = c .before .before .before .loop in
+    sym (l .inv ∙ each-here _ (c .before .before .before .before .args .ns .now) (l .i) 0 (search needs) ∙ rw (eq-eqb _ _ (c .if1 .taken)) refl)
+
+add-i : tie.Need-add-i Inv-loop μ-loop
+add-i c = search needs
+
+loop-less : tie.Need-loop-less Inv-loop μ-loop
+loop-less c = search needs
+
+loop-again : tie.Need-loop-again Inv-loop μ-loop
+loop-again c =
+    let l = c .before .before .before .loop in
+    l .inv ∙ each-here _ (c .before .before .before .before .args .ns .now) (l .i) 0 (search needs) ∙ rw (ne-eqb _ _ (c .if1 .left)) refl
+
+returns-2 : tie.Need-returns-2 Inv-loop μ-loop
+returns-2 c = sym (c .before .loop .inv ∙ each-end _ (c .before .before .args .ns .now) (c .before .loop .i) (search needs))
+
+pub none-equals-spec : {M : Type 1} → statement M
+none-equals-spec =
+    tie.close
+    (tie.spec
+    Inv-loop
+    μ-loop
+    loop-holds
+    mul-if1
+    shared-slice-read-if1
+    returns
+    add-i
+    loop-less
+    loop-again
+    returns-2)

@@ -1,0 +1,124 @@
+// The drain of a job list: the earliest loaded job whose move is admitted moves, as long as there is budget.
+ghost use mathlib.Core.Path.{_≡_};
+ghost use Prim.Native.Nat.{_≤_, _<_};
+ghost use lib.ListN.{getD};
+ghost use Rattle.model.specs.Limits.{maxStages, maxJobs};
+ghost use Rattle.model.specs.Soundness.{Sound};
+ghost use Rattle.model.specs.Jobs.{noJob};
+ghost use Rattle.events.specs.JobList.{jobsOf, listOf, Agrees};
+ghost use Rattle.events.specs.Events.{jobsAfter};
+ghost use Rattle.events.specs.Drain.{moveOf, drainFrom, listDrain};
+ghost use Rattle.parts.specs.Parts.{ceilingsOf, earliestPosition};
+use agreement::agree;
+use events::Answer;
+use events::End;
+use events::JobList;
+use events::ListDrained;
+use joblists::with_replaced;
+use joblists::without_job;
+use model::Job;
+use model::Plan;
+use parts::Ceilings;
+use stages::length_of;
+use stages::stage_index;
+use sums::kept_after;
+use sums::sums_of;
+
+// The position of the earliest loaded job whose move is admitted; the count where there is none. A job at its last stage
+// can always be unloaded.
+fn earliest(p: Plan, t: JobList, ceilings: Ceilings) -> usize
+    requires { ⌜ Sound p × Agrees p t × (ceilings ≡ ceilingsOf p) ⌝ }
+    ensures { λ r. ⌜ r ≡ earliestPosition p t ⌝ }
+{
+    let sums = sums_of(p, t);
+    let lengths = p.lengths;
+    let count = t.count;
+    let mut i = 0;
+    while i < count {
+        let j = t.jobs[i];
+        if length_of(&lengths, j.kind) == j.stage {
+            return i;
+        }
+        let from = stage_index(&lengths, j.kind, j.stage);
+        let old = p.stages[from];
+        let to = from + 1;
+        let new = p.stages[to];
+        if let Answer::Admitted = kept_after(sums, old, new, ceilings) {
+            return i;
+        }
+        i += 1;
+    }
+    i
+}
+
+// The list after the move of the job at this position, under any plan with these stages per type: an advance, or an unload
+// at the last stage.
+fn after_move(t: JobList, at: usize, lengths: &[u8; 16]) -> JobList
+    requires { ⌜ (at < t .count) × (t .count ≤ maxJobs) × (getD (t .jobs) at noJob .stage ≤ maxStages) ⌝ }
+    ensures { λ r. ⌜ ((p : Plan) → Sound p → Agrees p t → p .lengths ≡ now (lengths .entry) → r ≡ listOf (jobsAfter p (jobsOf t) (moveOf p (getD (t .jobs) at noJob)))) ⌝ }
+{
+    let j = t.jobs[at];
+    if length_of(lengths, j.kind) == j.stage {
+        return without_job(t, at);
+    }
+    let next = Job {
+        number: j.number,
+        kind: j.kind,
+        stage: j.stage + 1,
+    };
+    with_replaced(t, at, next)
+}
+
+// From an agreeing list: is a job left, is there budget, is some job's move admitted.
+fn drain_from(p: Plan, t: JobList, ceilings: Ceilings, budget: u32) -> ListDrained
+    requires { ⌜ Sound p × Agrees p t × (ceilings ≡ ceilingsOf p) ⌝ }
+    ensures { λ r. ⌜ r ≡ drainFrom p budget t ⌝ }
+{
+    let lengths = p.lengths;
+    let mut t = t;
+    let mut moves = 0;
+    while 0 < t.count {
+        if budget <= moves {
+            return ListDrained {
+                end: End::OutOfBudget,
+                moves,
+                list: t,
+            };
+        }
+        let at = earliest(p, t, ceilings);
+        if t.count <= at {
+            return ListDrained {
+                end: End::NoMove,
+                moves,
+                list: t,
+            };
+        }
+        t = after_move(t, at, &lengths);
+        moves += 1;
+    }
+    ListDrained {
+        end: End::Emptied,
+        moves,
+        list: t,
+    }
+}
+
+pub fn drain(t: JobList, p: Plan, budget: u32) -> ListDrained
+    ensures { λ r. ⌜ r ≡ listDrain p t budget ⌝ }
+{
+    let agreement = agree(p, t);
+    let first = agreement.answer;
+    match first {
+        Answer::Admitted => drain_from(p, t, agreement.ceilings, budget),
+        Answer::UnsoundPlan => ListDrained {
+            end: End::UnsoundPlan,
+            moves: 0,
+            list: t,
+        },
+        _ => ListDrained {
+            end: End::Disagreement,
+            moves: 0,
+            list: t,
+        },
+    }
+}

@@ -1,0 +1,109 @@
+-- The ledger holds the jobs of the table: an admitted event makes the same change to its jobs, and what it takes and gives
+-- back is the change in what the present stages demand.
+use Prim.Native.Nat.{ℕ, _+_}
+use native.Mathlib.Omega.{arith}
+use mathlib.Core.Bool.{false}
+use mathlib.Core.List.{List, _∷_, _++_}
+use mathlib.Core.Logic.{⊎-elim}
+use mathlib.Core.Path.{_≡_, refl, sym, ap, subst, _∙_}
+use Rattle.model.specs.Plan.{demandOf}
+use Rattle.model.specs.Jobs.{unitsHeld, HasNext, advancedAt, Active, jobOf, loadedJob, advancedJob, AtStage, Agreeing}
+use Rattle.model.specs.Soundness.{Sound}
+use Rattle.model.specs.declared.Plan.{Plan}
+use Rattle.model.specs.declared.Job.{Job}
+use Rattle.model.proofs.Decide.{AllHold, passes}
+use Rattle.model.proofs.Sums.{over-stages-added, over-stages-removed, over-stages-moved}
+use Rattle.model.proofs.Jobs.{decides-active, Found}
+use Rattle.events.specs.JobList.{jobsOf, listOf, Agrees}
+use Rattle.events.specs.Events.{jobsAfter, ownConditions, answer, isAdmitted, listAfter}
+use Rattle.emptying.specs.Ledger.{Ledger, demandAt, takes, gives, written, entered}
+use Rattle.emptying.specs.Run.{State}
+use Rattle.events.specs.declared.Event.{Event}
+use Rattle.events.specs.declared.Event.the-variants.{Load, Advance, Unload}
+use Rattle.events.specs.declared.Answer.the-variants.{Admitted}
+use Rattle.events.proofs.JobLists.{jobs-of-list}
+use Rattle.events.proofs.Answers.{names, staged-job, admitted-or-not, admitted-holds, list-admitted, list-refused, agrees-after}
+
+-- units taken are units given back plus what the present stages demand
+abbrev pub Balanced : Plan → Ledger → Type 0
+Balanced p l = (r : ℕ) → l .taken r ≡ l .given r + unitsHeld p r (l .jobs)
+
+-- per resource an advance takes what the new stage demands above the old and gives back what the old demands above the new
+pub advance-units : (p : Plan) {n : ℕ} {js : List Job} (a : Active n js) → AtStage p (a .here .item) → HasNext p (a .here .item) → (r : ℕ) → unitsHeld p r (advancedAt p (a .here)) + gives p (a .here .item) r ≡ unitsHeld p r js + takes p (a .here .item) r
+advance-units p a here next r =
+    omega (arith, ap (unitsHeld p r) (a .here .whole), over-stages-moved p (demandOf p r) (a .here .before) (a .here .after) (a .here .item) (advancedJob p (a .here .item)) here (here .0, omega (arith, next)))
+
+module _ (p : Plan) (sound : Sound p) (l : Ledger) (agreeing : Agreeing p (l .jobs)) (balanced : Balanced p l) where
+  -- what is written of an event whose questions are met
+  record Written (e : Event) (new : Ledger) : Type 0 where
+    jobs : new .jobs ≡ jobsAfter p (l .jobs) e
+    balance : Balanced p new
+
+  event-written : (e : Event) → AllHold (ownConditions p (l .jobs) e) → Written e (written p l e)
+  event-written (Load n t) h =
+      let stage = sound .lengths t (h .1 .1 .0) in
+      record {
+        jobs = refl;
+        balance = λ r. omega (arith, balanced r, over-stages-added p (demandOf p r) (l .jobs) (loadedJob n t) (h .1 .1 .0, omega arith));
+      }
+  event-written (Advance n) h = rw (passes (decides-active n (l .jobs)) a) (record { jobs = refl; balance = balance })
+    where
+      a : Active n (l .jobs)
+      a = h .1 .0
+
+      found : Found p n (l .jobs) a
+      found = names p sound (l .jobs) agreeing n a
+
+      balance : (r : ℕ) → l .taken r + takes p (jobOf n (l .jobs)) r ≡ l .given r + gives p (jobOf n (l .jobs)) r + unitsHeld p r (jobsAfter p (l .jobs) (Advance n))
+      balance r =
+          rw (found .advance, found .job)
+          (omega (arith, balanced r, advance-units p a (staged-job p sound (l .jobs) agreeing n a) (h .1 .1 .0 a) r))
+  event-written (Unload n) h = rw (passes (decides-active n (l .jobs)) a) (record { jobs = refl; balance = balance })
+    where
+      a : Active n (l .jobs)
+      a = h .1 .0
+
+      found : Found p n (l .jobs) a
+      found = names p sound (l .jobs) agreeing n a
+
+      balance : (r : ℕ) → l .taken r ≡ l .given r + demandAt p (jobOf n (l .jobs)) r + unitsHeld p r (jobsAfter p (l .jobs) (Unload n))
+      balance r =
+          rw (found .unload, found .job)
+          (omega (arith, balanced r, ap (unitsHeld p r) (a .here .whole), over-stages-removed p (demandOf p r) (a .here .before) (a .here .after) (a .here .item) (staged-job p sound (l .jobs) agreeing n a)))
+
+-- a table and a ledger that hold the same jobs, balanced
+pub record Consistent (p : Plan) (s : State) : Type 0 where
+  pub same : s .list ≡ listOf (s .ledger .jobs)
+  pub agrees : Agrees p (s .list)
+  pub balance : Balanced p (s .ledger)
+
+pub jobs-of-ledger : (p : Plan) (s : State) → Consistent p s → jobsOf (s .list) ≡ s .ledger .jobs
+jobs-of-ledger p s h = ap jobsOf (h .same) ∙ jobs-of-list (s .ledger .jobs)
+
+-- the state after one event
+abbrev pub stateAfter : Plan → State → Event → State
+stateAfter p s e = record { list = listAfter p (s .list) e; ledger = entered p (s .ledger) e (answer p (s .list) e) }
+
+pub stays-consistent : (p : Plan) → Sound p → (s : State) (e : Event) → Consistent p s → Consistent p (stateAfter p s e)
+unfolding entered
+stays-consistent p sound s e h = ⊎-elim yes not (admitted-or-not (answer p (s .list) e))
+  where
+    same-jobs : jobsOf (s .list) ≡ s .ledger .jobs
+    same-jobs = jobs-of-ledger p s h
+
+    agrees : Agrees p (listAfter p (s .list) e)
+    agrees = agrees-after p (s .list) e sound (h .agrees)
+
+    yes : answer p (s .list) e ≡ Admitted → Consistent p (stateAfter p s e)
+    yes a =
+        let own = subst (λ (js : List Job). AllHold (ownConditions p js e)) same-jobs (admitted-holds p (s .list) e a .1 .1) in
+        let w = event-written p sound (s .ledger) (subst (Agreeing p) same-jobs (h .agrees .jobs)) (h .balance) e own in
+        rw (ap isAdmitted a)
+        (record {
+          same = list-admitted p (s .list) e a ∙ ap listOf (ap (λ (js : List Job). jobsAfter p js e) same-jobs ∙ sym (w .jobs));
+          agrees = agrees;
+          balance = w .balance;
+        })
+
+    not : isAdmitted (answer p (s .list) e) ≡ false → Consistent p (stateAfter p s e)
+    not n = rw n (record { same = list-refused p (s .list) e n ∙ h .same; agrees = agrees; balance = h .balance })

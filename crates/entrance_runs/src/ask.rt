@@ -1,0 +1,150 @@
+// What is asked of the entrances and written, each number after a tab. Each function hands back the table afterwards.
+use crate::table::first_stage;
+use crate::table::jobs;
+use crate::table::loaded;
+use crate::table::same;
+use admission::Outcome;
+use admission::Table;
+use libc::STDOUT_FILENO;
+use model::Plan;
+use numbers::answer_number;
+use numbers::answer_place;
+use numbers::check_first;
+use numbers::check_number;
+use numbers::check_second;
+use numbers::end_number;
+use soundness::is_sound;
+use upstream::upstream_check;
+
+fn number(x: u64) {
+    io::write_all(STDOUT_FILENO, b"\t");
+    io::print_decimal(STDOUT_FILENO, x);
+}
+
+fn short(x: u32) {
+    number(x as u64);
+}
+
+// What follows the letter.
+fn text(line: &[u8], t: Table) -> Table {
+    if 0 < line.len() {
+        io::write_all(STDOUT_FILENO, &line[1..]);
+    }
+    t
+}
+
+// The same on a new line.
+fn next_text(line: &[u8], t: Table) -> Table {
+    io::write_all(STDOUT_FILENO, b"\n");
+    text(line, t)
+}
+
+// The stage of the earliest loaded job.
+fn stage(t: Table) -> Table {
+    short(first_stage(t));
+    t
+}
+
+fn answered(n: u32, place: u32, t: Table) -> Table {
+    short(n);
+    short(place);
+    number(jobs(t));
+    t
+}
+
+fn outcome(p: Plan, t: Table, letter: u8, job: u32, kind: u32) -> Outcome {
+    match letter {
+        b'l' => t.load(p, job, kind),
+        b'a' => t.advance(p, job),
+        _ => t.unload(p, job),
+    }
+}
+
+// An event's answer and place, and the jobs then active.
+fn event(p: Plan, t: Table, letter: u8, job: u32, kind: u32) -> Table {
+    let o = outcome(p, t, letter, job, kind);
+    let answer = o.answer;
+    answered(answer_number(answer), answer_place(answer), o.table)
+}
+
+// A drain's answer and its moves, and the jobs then active.
+fn drain(p: Plan, t: Table, budget: u32) -> Table {
+    let d = t.drain(p, budget);
+    let end = d.end;
+    answered(end_number(end), d.moves, d.table)
+}
+
+// The upstream check's answer and its two places.
+fn check(p: Plan, t: Table) -> Table {
+    let c = upstream_check(p);
+    short(check_number(c));
+    short(check_first(c));
+    short(check_second(c));
+    t
+}
+
+// Its answer; is its table the one that it was asked of?
+fn is_same_after(p: Plan, t: Table, letter: u8, job: u32) -> bool {
+    let o = outcome(p, t, letter, job, 1);
+    let answer = o.answer;
+    short(answer_number(answer));
+    same(t, o.table)
+}
+
+fn is_same_drained(p: Plan, t: Table) -> bool {
+    let d = t.drain(p, 1);
+    let end = d.end;
+    short(end_number(end));
+    short(d.moves);
+    same(t, d.table)
+}
+
+// Soundness; the answers of the check, the agreement, a load of job 8, an advance and an unload of job 7, and a drain, with
+// its moves; and 1 where each of these four handed the same table back.
+fn entrances(p: Plan, t: Table) -> Table {
+    number(is_sound(p) as u64);
+    short(check_number(upstream_check(p)));
+    short(answer_number(t.agreement(p)));
+    let load = is_same_after(p, t, b'l', 8);
+    let advance = is_same_after(p, t, b'a', 7);
+    let unload = is_same_after(p, t, b'u', 7);
+    let drain = is_same_drained(p, t);
+    number((load & advance & unload & drain) as u64);
+    t
+}
+
+// A list of eight events; the jobs left, and the events admitted. Their jobs are x and y in turn, and their types z and w.
+// The line's own letter stands before theirs, and is no event.
+fn list(p: Plan, t: Table, letters: &[u8], x: u32, y: u32, z: u32, w: u32) -> Table {
+    let numbers = [y, x, y, x, y, x, y, x, y];
+    let kinds = [w, z, w, z, w, z, w, z, w];
+    let ran = runs::run(t, p, letters, &numbers, &kinds);
+    number(jobs(ran.table));
+    number(ran.admitted as u64);
+    ran.table
+}
+
+// l job type; a job; u job; d budget; m jobs; r and the letters of events, then two jobs and two types.
+pub(crate) fn asked(
+    p: Plan,
+    t: Table,
+    letter: u8,
+    line: &[u8],
+    x: u32,
+    y: u32,
+    z: u32,
+    w: u32,
+) -> Table {
+    match letter {
+        b'l' | b'a' | b'u' => event(p, t, letter, x, y),
+        b'd' => drain(p, t, x),
+        b'm' => loaded(p, t, x),
+        b'q' => check(p, t),
+        b'e' => entrances(p, t),
+        b'r' => list(p, t, line, x, y, z, w),
+        b'f' => stage(t),
+        b':' => text(line, t),
+        b'=' | b'+' => next_text(line, t),
+        _ => t,
+    }
+}

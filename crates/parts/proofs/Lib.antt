@@ -1,0 +1,14 @@
+-- The laws that join the code to the definitions. Read in this order.
+pub mod Lanes
+pub mod StageIndex
+pub mod Tallies
+pub mod SumsAfter
+pub mod ClosingGap
+pub mod Positions
+pub mod ListChanges
+pub mod QuestionParts
+pub mod FirstQuestions
+pub mod LoadQuestions
+pub mod MoveQuestions
+pub mod EarliestMove
+pub mod DrainLoop

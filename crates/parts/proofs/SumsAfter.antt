@@ -1,0 +1,124 @@
+-- Exchanging one stage for another in the sums over the jobs gives the sums over the jobs afterwards. The tests go over all
+-- 32 entries: beyond the counts of a sound plan nothing is demanded and nothing weighed, so they name what the definitions
+-- name within the counts. Stated over the amount, so units and rows are one case.
+use Prim.Native.Nat.{ℕ, zero, suc, _+_, _-_, _≤_, _<_}
+use native.Mathlib.Omega.{arith}
+use mathlib.Core.Bool.{Bool, true, cond}
+use mathlib.Core.List.{List, [], _∷_, _++_}
+use mathlib.Core.Logic.{_⊎_, inl, inr, ⊎-elim}
+use mathlib.Core.Path.{_≡_, refl, sym, ap, ap₂, subst, _∙_}
+use lib.Dec.{leb, eqb}
+use lib.ListN.{replicate}
+use borrow.Author.Tests.{eq-eqb, ne-eqb, le-leb}
+use Rattle.model.specs.Limits.{maxResources, maxRows}
+use Rattle.model.specs.Numbers.{InRange, inRange, entry, at, sumTo, lowest, Each, Split}
+use Rattle.model.specs.Plan.{noStage, lengthOf, IsStage, isStage, stageOf, demandOf, weightOf}
+use Rattle.model.specs.Jobs.{overJobs, exceeded, broken, advancedJob, advancedAt}
+use Rattle.model.specs.Soundness.{Sound}
+use Rattle.model.specs.declared.Plan.{Plan}
+use Rattle.model.specs.declared.Stage.{Stage}
+use Rattle.model.specs.declared.Job.{Job}
+use Rattle.model.proofs.Decide.{Decides, holding, failing, decided, decides-le, decides-range, _and_}
+use Rattle.model.proofs.Lists.{replicated, every-each}
+use Rattle.model.proofs.Sums.{over-jobs-append, over-jobs-moved, over-jobs-removed, over-jobs-zero}
+use Rattle.events.specs.Events.{keptAnswer}
+use Rattle.parts.specs.Parts.{tabulate, sumsOf, ceilingsOf, lowestAfter, keptAfter}
+use Rattle.parts.specs.declared.Sums.{Sums}
+use Rattle.parts.specs.declared.Ceilings.{Ceilings}
+use Rattle.parts.proofs.Lanes.{at-tabulate, lowest-lanes}
+
+-- no amount where there is no stage
+nothing : (n i : ℕ) → at (replicate n 0) i ≡ 0
+nothing n zero = refl
+nothing n (suc i) = replicated n i 0
+
+-- the amounts of the jobs afterwards are those of the jobs now with the old given back and the new taken
+abbrev Exchanged : (ℕ → ℕ → ℕ) → List Job → List Job → ℕ → ℕ → Type 0
+Exchanged f js next old new = (overJobs f next + old ≡ overJobs f js + new) × (old ≤ overJobs f js)
+
+pub record Exchange (p : Plan) (js next : List Job) (old new : Stage) : Type 0 where
+  pub units : (r : ℕ) → Exchanged (demandOf p r) js next (at (old .demand) r) (at (new .demand) r)
+  pub rows : (w : ℕ) → Exchanged (weightOf p w) js next (at (old .weight) w) (at (new .weight) w)
+
+-- the three exchanges: none; a job is added, with nothing given back; a job moves on from one stage to the next
+module _ (p : Plan) (js : List Job) where
+  pub none-exchanged : Exchange p js js noStage noStage
+  none-exchanged = record { units = λ r. none (demandOf p r) r; rows = λ w. none (weightOf p w) w }
+    where
+      none : (f : ℕ → ℕ → ℕ) (i : ℕ) → Exchanged f js js (at (replicate 32 0) i) (at (replicate 32 0) i)
+      none f i = rw (nothing 32 i) (refl, omega arith)
+
+  module _ (j : Job) (new : Stage) (stage : new ≡ stageOf p (j .kind) (j .stage)) where
+    added : (f : ℕ → ℕ → ℕ) (i n : ℕ) → n ≡ f (j .kind) (j .stage) → Exchanged f js (js ++ j ∷ []) (at (replicate 32 0) i) n
+    added f i n e = rw (nothing 32 i, e) (omega (arith, over-jobs-append f js (j ∷ [])), omega arith)
+
+    pub added-exchanged : Exchange p js (js ++ j ∷ []) noStage new
+    unfolding demandOf weightOf
+    added-exchanged =
+        record {
+          units = λ r. added (demandOf p r) r _ (ap (λ (s : Stage). at (s .demand) r) stage);
+          rows = λ w. added (weightOf p w) w _ (ap (λ (s : Stage). at (s .weight) w) stage);
+        }
+
+  module _ (s : Split js) (old new : Stage) (left : old ≡ stageOf p (s .item .kind) (s .item .stage)) (entered : new ≡ stageOf p (s .item .kind) (s .item .stage + 1)) where
+    moved : (f : ℕ → ℕ → ℕ) (m n : ℕ) → m ≡ f (s .item .kind) (s .item .stage) → n ≡ f (s .item .kind) (s .item .stage + 1) → Exchanged f js (advancedAt p s) m n
+    moved f m n e g =
+        let whole = ap (overJobs f) (s .whole) in
+        rw (e, g)
+        (omega (arith, over-jobs-moved f (s .before) (s .after) (s .item) (advancedJob p (s .item)), whole), omega (arith, over-jobs-removed f (s .before) (s .after) (s .item), whole))
+
+    pub moved-exchanged : Exchange p js (advancedAt p s) old new
+    unfolding demandOf weightOf
+    moved-exchanged =
+        record {
+          units = λ r. moved (demandOf p r) _ _ (ap (λ (s : Stage). at (s .demand) r) left) (ap (λ (s : Stage). at (s .demand) r) entered);
+          rows = λ w. moved (weightOf p w) _ _ (ap (λ (s : Stage). at (s .weight) w) left) (ap (λ (s : Stage). at (s .weight) w) entered);
+        }
+
+module _ (p : Plan) (sound : Sound p) where
+  stage-cases : (t k : ℕ) → IsStage p t k ⊎ (stageOf p t k ≡ noStage)
+  unfolding stageOf isStage
+  stage-cases t k = go (decides-range t (p .types) and decides-range k (lengthOf p t))
+    where
+      go : {b : Bool} → Decides (IsStage p t k) b → IsStage p t k ⊎ (cond b (entry (p .stages) (sumTo (t - 1) (lengthOf p) + k) noStage) noStage ≡ noStage)
+      go (holding h) = inl h
+      go (failing h) = inr refl
+
+  demand-beyond : (r : ℕ) → p .resources < r → (t k : ℕ) → demandOf p r t k ≡ 0
+  unfolding demandOf
+  demand-beyond r h t k =
+      ⊎-elim (λ s. sound .stages t k s .no-more-demands r h) (λ e. ap (λ (s : Stage). at (s .demand) r) e ∙ nothing 32 r) (stage-cases t k)
+
+  weight-beyond : (w : ℕ) → p .rows < w → (t k : ℕ) → weightOf p w t k ≡ 0
+  unfolding weightOf
+  weight-beyond w h t k =
+      ⊎-elim (λ s. sound .stages t k s .no-more-weights w h) (λ e. ap (λ (s : Stage). at (s .weight) w) e ∙ nothing 32 w) (stage-cases t k)
+
+  module _ (js next : List Job) where
+    -- the lowest of m entries that is above its ceiling is the lowest within the count n
+    lanes-after : (m n : ℕ) (f : ℕ → ℕ → ℕ → ℕ) (old new ceilings : List ℕ) → n ≤ m → ((i : ℕ) → Exchanged (f i) js next (at old i) (at new i)) → ((i : ℕ) → n < i → (t k : ℕ) → f i t k ≡ 0) → lowestAfter m (tabulate m (λ i. overJobs (f i) js)) old new ceilings ≡ lowest n (λ i. leb (overJobs (f i) next) (at ceilings i))
+    unfolding lowestAfter
+    lanes-after m n f old new ceilings low exchanged beyond = lowest-lanes m n _ _ low (λ i h. same i (omega arith)) high
+      where
+        sum : (i : ℕ) → InRange i m → at (tabulate m (λ i. overJobs (f i) js)) i - at old i + at new i ≡ overJobs (f i) next
+        sum i h = omega (arith, at-tabulate (λ i. overJobs (f i) js) m i h, exchanged i)
+
+        same : (i : ℕ) → InRange i m → leb (at (tabulate m (λ i. overJobs (f i) js)) i - at old i + at new i) (at ceilings i) ≡ leb (overJobs (f i) next) (at ceilings i)
+        same i h = ap (λ (n : ℕ). leb n (at ceilings i)) (sum i h)
+
+        high : (i : ℕ) → n < i → i ≤ m → leb (at (tabulate m (λ i. overJobs (f i) js)) i - at old i + at new i) (at ceilings i) ≡ true
+        high i above h =
+            let none = over-jobs-zero (f i) next (every-each _ (λ (j : Job). beyond i above (j .kind) (j .stage)) next) in
+            same i (omega arith) ∙ le-leb (overJobs (f i) next) (at ceilings i) (omega (arith, none))
+
+    pub kept-exchanged : (old new : Stage) → Exchange p js next old new → keptAfter (sumsOf p js) old new (ceilingsOf p) ≡ keptAnswer (exceeded p next) (broken p next)
+    unfolding keptAfter sumsOf exceeded broken
+    kept-exchanged old new e =
+        ap₂ keptAnswer
+        (lanes-after maxResources (p .resources) (demandOf p) (old .demand) (new .demand) (p .capacity) (sound .resources .1) (e .units) demand-beyond)
+        (lanes-after maxRows (p .rows) (weightOf p) (old .weight) (new .weight) (p .bound) (sound .rows) (e .rows) weight-beyond)
+
+-- the two tests with what is equal
+module _ {s s′ : Sums} {c c′ : Ceilings} (sums : s ≡ s′) (ceilings : c ≡ c′) where
+  pub kept-same : {old old′ : Stage} → old ≡ old′ → (new : Stage) → keptAfter s old new c ≡ keptAfter s′ old′ new c′
+  kept-same old new = λ i. keptAfter (sums i) (old i) new (ceilings i)

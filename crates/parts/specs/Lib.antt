@@ -1,0 +1,2 @@
+-- What the inner functions compute, for their contracts and proofs alone.
+pub mod Parts

@@ -1,0 +1,144 @@
+-- What the parts of the entrances compute, each under one name. No promise rests on these: the contracts of the entrances
+-- are equations with the definitions of `events` and `model`.
+use Prim.Native.Nat.{ℕ, zero, suc, _+_, _-_, _≤_}
+use mathlib.Core.Bool.{Bool, cond, not, _&&_}
+use mathlib.Core.List.{List, [], _∷_, _++_}
+use mathlib.Core.Path.{_≡_}
+use lib.ListN.{length, take, drop, set, replicate}
+use lib.Dec.{leb, ltb}
+use Rattle.model.specs.Limits.{maxResources, maxRows, maxAllStages, maxNumber, maxJobs}
+use Rattle.model.specs.Numbers.{InRange, inRange, at, sumTo, lowest, each}
+use Rattle.model.specs.Questions.{ask, answerOf}
+use Rattle.model.specs.Plan.{demandOf, weightOf}
+use Rattle.model.specs.Jobs.{noJob, overJobs, hasNumber, jobOf, numbers, distinct, fits}
+use Rattle.model.specs.declared.Plan.{Plan}
+use Rattle.model.specs.declared.Stage.{Stage}
+use Rattle.model.specs.declared.Job.{Job}
+use Rattle.events.specs.JobList.{jobsOf, isNoJob}
+use Rattle.events.specs.Events.{agreement, answer, isAdmitted, keptAnswer}
+use Rattle.events.specs.Drain.{moveOf}
+use Rattle.events.specs.declared.JobList.{JobList}
+use Rattle.events.specs.declared.Answer.{Answer}
+use Rattle.events.specs.declared.Answer.the-variants.{Admitted, BadNumber, WrongActivity, UnknownType, Full}
+use Rattle.parts.specs.declared.Sums.{Sums}
+use Rattle.parts.specs.declared.Ceilings.{Ceilings}
+use Rattle.parts.specs.declared.Found.{Found}
+use Rattle.parts.specs.declared.Agreement.{Agreement}
+
+-- the list f 1, .., f n
+abbrev pub tabulate : ℕ → (ℕ → ℕ) → List ℕ
+tabulate zero f = []
+tabulate (suc n) f = tabulate n f ++ f (suc n) ∷ []
+
+-- where stage k of type t stands among all stages, counted from 0, with so many stages of each type
+unfoldable pub stageIndex : List ℕ → ℕ → ℕ → ℕ
+stageIndex lengths t k = sumTo (t - 1) (at lengths) + (k - 1)
+
+-- the same with so many types; 128 where there is no such stage
+abbrev pub indexIn : List ℕ → ℕ → ℕ → ℕ → ℕ
+indexIn lengths types t k = cond (inRange t types && inRange k (at lengths t)) (stageIndex lengths t k) maxAllStages
+
+-- 32 amounts, each of at most this much
+pub record Few (most : ℕ) (amounts : List ℕ) : Type 0 where
+  pub lanes : length amounts ≡ 32
+  pub low : (i : ℕ) → InRange i 32 → at amounts i ≤ most
+
+-- each of 32 amounts has grown by its own, which is at most 255
+pub record Added (amounts more after : List ℕ) : Type 0 where
+  pub lanes : length after ≡ 32
+  pub sum : (i : ℕ) → InRange i 32 → at after i ≡ at amounts i + at more i
+  pub low : (i : ℕ) → InRange i 32 → at after i ≤ at amounts i + 255
+
+-- the sums over these jobs, and over none
+unfoldable pub sumsOf : Plan → List Job → Sums
+sumsOf p js =
+    record {
+      units = tabulate maxResources (λ (r : ℕ). overJobs (demandOf p r) js);
+      rows = tabulate maxRows (λ (w : ℕ). overJobs (weightOf p w) js);
+    }
+
+abbrev pub noSums : Sums
+noSums = record { units = replicate maxResources 0; rows = replicate maxRows 0 }
+
+-- what a plan holds the sums against
+abbrev pub ceilingsOf : Plan → Ceilings
+ceilingsOf p = record { capacity = p .capacity; bound = p .bound }
+
+abbrev pub noCeilings : Ceilings
+noCeilings = record { capacity = replicate maxResources 0; bound = replicate maxRows 0 }
+
+-- the lowest of n amounts that is above its ceiling once the old is given back and the new taken; 0 for none
+unfoldable pub lowestAfter : ℕ → List ℕ → List ℕ → List ℕ → List ℕ → ℕ
+lowestAfter n amounts old new ceilings = lowest n (λ (i : ℕ). leb (at amounts i - at old i + at new i) (at ceilings i))
+
+-- questions 18 and 19 once one stage is exchanged for another
+unfoldable pub keptAfter : Sums → Stage → Stage → Ceilings → Answer
+keptAfter s old new c =
+    keptAnswer (lowestAfter maxResources (s .units) (old .demand) (new .demand) (c .capacity))
+    (lowestAfter maxRows (s .rows) (old .weight) (new .weight) (c .bound))
+
+-- the position of the job with this number, counted from 0; as many as there are jobs where none has it
+abbrev pub positionOf : ℕ → List Job → ℕ
+positionOf n [] = 0
+positionOf n (j ∷ js) = cond (hasNumber n j) 0 (suc (positionOf n js))
+
+abbrev pub foundIn : ℕ → List Job → Found
+foundIn n js = record { at = positionOf n js; job = jobOf n js }
+
+-- questions 13 and 14 of a move, and 13 to 16 of a load, by the count of jobs and the position that the search for the
+-- number found; asked where those before were answered 0
+unfoldable pub nameAnswer : Answer → ℕ → ℕ → ℕ → Answer
+nameAnswer first count position n =
+    cond (isAdmitted first)
+    (answerOf Admitted (ask (inRange n maxNumber) BadNumber ∷ ask (ltb position count) WrongActivity ∷ []))
+    first
+
+unfoldable pub loadAnswer : Answer → ℕ → ℕ → ℕ → ℕ → ℕ → Answer
+loadAnswer first count position types n k =
+    cond (isAdmitted first)
+    (answerOf Admitted
+    (ask (inRange n maxNumber) BadNumber
+    ∷ ask (not (ltb position count)) WrongActivity
+    ∷ ask (inRange k types) UnknownType
+    ∷ ask (ltb count maxJobs) Full
+    ∷ []))
+    first
+
+-- a job list with one job more, with another job at a position, and without the job at a position; where there is no room
+-- or no such job it is handed back as it is
+unfoldable pub withJob : JobList → Job → JobList
+withJob t j = cond (ltb (t .count) maxJobs) (record { count = t .count + 1; jobs = set (t .jobs) (t .count) j }) t
+
+unfoldable pub withReplaced : JobList → ℕ → Job → JobList
+withReplaced t i j = record { count = t .count; jobs = set (t .jobs) i j }
+
+unfoldable pub withoutJob : JobList → ℕ → JobList
+withoutJob t i =
+    cond (ltb i (t .count) && leb (t .count) maxJobs)
+    (record { count = t .count - 1; jobs = take i (t .jobs) ++ drop (i + 1) (t .jobs) ++ noJob ∷ [] })
+    t
+
+-- the part of agreement that needs no sums, in a plan with so many types and so many stages of each
+unfoldable pub wellFormed : ℕ → List ℕ → JobList → Bool
+wellFormed types lengths t =
+    leb (t .count) maxJobs
+    && each isNoJob (drop (t .count) (t .jobs))
+    && (each (fits types lengths) (jobsOf t) && distinct (numbers (jobsOf t)))
+
+-- what the first two questions hand on where they are met, and with a refusal
+abbrev pub agreedWith : Sums → Ceilings → Agreement
+agreedWith s c = record { answer = Admitted; sums = s; ceilings = c }
+
+abbrev pub refusedWith : Answer → Agreement
+refusedWith a = record { answer = a; sums = noSums; ceilings = noCeilings }
+
+unfoldable pub agreed : Plan → JobList → Agreement
+agreed p t = cond (isAdmitted (agreement p t)) (agreedWith (sumsOf p (jobsOf t)) (ceilingsOf p)) (refusedWith (agreement p t))
+
+-- the position of the earliest of these jobs whose move is admitted; as many as there are jobs where there is none
+abbrev pub firstMovable : Plan → JobList → List Job → ℕ
+firstMovable p t [] = 0
+firstMovable p t (j ∷ js) = cond (isAdmitted (answer p t (moveOf p j))) 0 (suc (firstMovable p t js))
+
+abbrev pub earliestPosition : Plan → JobList → ℕ
+earliestPosition p t = firstMovable p t (jobsOf t)

@@ -1,0 +1,28 @@
+// What the parts of the entrances hand each other, as values. What they compute is defined in specs/, and nothing runs here.
+use events::Answer;
+use model::Job;
+
+// The units held of each resource and the sum of each row; entry i is resource or row i + 1.
+pub struct Sums {
+    pub units: [u16; 32],
+    pub rows: [u16; 32],
+}
+
+// What the sums are held against: the capacities, in 16 bits each, and the bounds.
+pub struct Ceilings {
+    pub capacity: [u16; 32],
+    pub bound: [u16; 32],
+}
+
+// Where the job with a number stands, counted from 0, and the job; the count and no job where none has the number.
+pub struct Found {
+    pub at: usize,
+    pub job: Job,
+}
+
+// The answer to questions 11 and 12 and, where both are met, the sums over the jobs and what they are held against.
+pub struct Agreement {
+    pub answer: Answer,
+    pub sums: Sums,
+    pub ceilings: Ceilings,
+}

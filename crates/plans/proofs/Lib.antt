@@ -1,2 +1,0 @@
--- The laws behind the code of the upstream check.
-pub mod Stretch

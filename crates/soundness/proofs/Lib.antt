@@ -1,0 +1,2 @@
+-- The laws behind the code of the soundness test.
+pub mod ZeroBeyond

@@ -1,0 +1,59 @@
+// Where the stages of a type stand in a plan, by the stages of each type. Any type and stage may be asked.
+ghost use mathlib.Core.Path.{_≡_};
+ghost use Prim.Native.Nat.{_-_, _*_, _≤_};
+ghost use Rattle.model.specs.Numbers.{at, sumTo};
+ghost use Rattle.parts.specs.Parts.{stageIndex};
+
+fn u8_to_u32(x: u8) -> u32
+    ensures { λ r. ⌜ r ≡ x ⌝ }
+{
+    x as u32
+}
+
+// Handed the array itself, of which it is known that it has 16 entries.
+fn entry(lengths: [u8; 16], kind: u32) -> u32
+    ensures { λ r. ⌜ r ≡ at lengths kind ⌝ }
+{
+    if kind < 1 {
+        return 0;
+    }
+    if 16 < kind {
+        return 0;
+    }
+    let t = (kind - 1) as usize;
+    u8_to_u32(lengths[t])
+}
+
+// The stages of a type; 0 where there is no such type.
+pub fn length_of(lengths: &[u8; 16], kind: u32) -> u32
+    ensures { λ r. ⌜ r ≡ at (now (lengths .entry)) kind ⌝ }
+{
+    entry(*lengths, kind)
+}
+
+// The stages of the types before a type.
+fn stages_before(lengths: [u8; 16], kind: u32) -> usize
+    ensures { λ r. ⌜ (r ≡ sumTo (kind - 1) (at lengths)) × (r ≤ 16 * 4294967295) ⌝ }
+{
+    let mut sum: usize = 0;
+    let mut t: u32 = 1;
+    while t < kind {
+        if 16 < t {
+            return sum;
+        }
+        sum += entry(lengths, t) as usize;
+        t += 1;
+    }
+    sum
+}
+
+// Where a stage of a type stands among all stages, counted from 0.
+pub fn stage_index(lengths: &[u8; 16], kind: u32, stage: u32) -> usize
+    ensures { λ r. ⌜ r ≡ stageIndex (now (lengths .entry)) kind stage ⌝ }
+{
+    let before = stages_before(*lengths, kind);
+    if stage < 1 {
+        return before;
+    }
+    before + (stage - 1) as usize
+}

@@ -1,0 +1,3 @@
+-- The laws behind the code of the upstream check.
+pub mod Stages
+pub mod RowWalk

@@ -1,0 +1,62 @@
+-- The sum so far is that of the units passed, and small.
+use Prim.Native.Nat.{_*_, _-_, _≤_}
+use native.Mathlib.Omega.{arith}
+use native.Mathlib.Numerals.{add-one}
+use mathlib.Core.Path.{_≡_, refl, _∙_}
+use borrow.Author.Needs.{needs}
+use Rattle.model.specs.Numbers.{at, sumTo}
+use Rattle.upstream.proofs.units.one_unit.Statement.{statement}
+use Rattle.upstream.proofs.units.one_unit.Tie as tie
+
+abbrev Inv-loop : tie.InvT-loop
+Inv-loop resources s n sum₀ i₀ sum i = (sum ≡ sumTo i (at (s .demand))) × (sum ≤ 255 * i) × (i ≤ n)
+
+abbrev μ-loop : tie.MeasureT-loop
+μ-loop resources s n sum₀ i₀ sum i = n - i
+
+u8-to-usize-requires : tie.Need-u8-to-usize-requires Inv-loop μ-loop
+u8-to-usize-requires c κs = tt
+
+loop-holds : tie.Need-loop-holds Inv-loop μ-loop
+loop-holds c = search needs
+
+element-copy-out-u8-to-usize : tie.Need-element-copy-out-u8-to-usize Inv-loop μ-loop
+element-copy-out-u8-to-usize c = search needs
+
+u8-to-usize-requires-2 : tie.Need-u8-to-usize-requires-2 Inv-loop μ-loop
+u8-to-usize-requires-2 c κs = tt
+
+add-sum : tie.Need-add-sum Inv-loop μ-loop
+add-sum c = search needs
+
+add-i : tie.Need-add-i Inv-loop μ-loop
+add-i c = search needs
+
+loop-less : tie.Need-loop-less Inv-loop μ-loop
+loop-less c = search needs
+
+loop-again : tie.Need-loop-again Inv-loop μ-loop
+loop-again c =
+    let at = c .before .before .before .loop in
+    (rw (add-one, at .inv .0, c .u8-to-usize2 .ensures .0) refl, omega arith, omega arith)
+
+returns : tie.Need-returns Inv-loop μ-loop
+returns c =
+    let all : c .before .loop .i ≡ c .before .before .before .args .resources = omega (arith, c .before .before .u8-to-usize .ensures .0) in
+    rw (← all, ← c .before .loop .inv .0) refl
+
+pub one-unit-spec : {M : Type 1} → statement M
+one-unit-spec =
+    tie.close
+    (tie.spec
+    Inv-loop
+    μ-loop
+    u8-to-usize-requires
+    loop-holds
+    element-copy-out-u8-to-usize
+    u8-to-usize-requires-2
+    add-sum
+    add-i
+    loop-less
+    loop-again
+    returns)

@@ -1,0 +1,2 @@
+-- What the parts of the check compute.
+pub mod Parts

@@ -1,0 +1,95 @@
+// Is each row weighted and bounded as the upstream rule says?
+ghost use mathlib.Core.Path.{_≡_};
+ghost use Prim.Native.Nat.{ℕ, _+_, _≤_, _<_};
+ghost use Rattle.model.specs.Numbers.{at, inRange, lowest};
+ghost use Rattle.model.specs.Plan.{allStages};
+ghost use Rattle.model.specs.Soundness.{Sound};
+ghost use Rattle.model.specs.Upstream.{faultyRow};
+ghost use Rattle.upstream.specs.Parts.{rankedIn, dueBy};
+use crate::position::position_of;
+use crate::position::u8_to_usize;
+use model::Plan;
+use model::Stage;
+
+// Does the stage demand a resource whose rank is at most that of the target, counted from 0?
+fn ranked_up_to(demand: &[u8; 32], rank: &[u8; 32], n: usize, target: usize) -> bool
+    requires { ⌜ (n ≤ 32) × (target < 32) ⌝ }
+    ensures { λ r. ⌜ r ≡ rankedIn n (now (demand .entry)) (now (rank .entry)) (target + 1) ⌝ }
+{
+    let limit = rank[target];
+    let mut i = 0;
+    while i < n {
+        if 1 <= demand[i] && rank[i] <= limit {
+            return true;
+        }
+        i += 1;
+    }
+    false
+}
+
+// The weight due to a stage in the row of the target, counted from 0, where `later` is due to the stage after it.
+fn due_weight(s: Stage, rank: &[u8; 32], n: usize, target: usize, later: u8) -> u8
+    requires { ⌜ (n ≤ 32) × (target < 32) ⌝ }
+    ensures { λ r. ⌜ r ≡ dueBy n (s .demand) (now (rank .entry)) (target + 1) later ⌝ }
+{
+    let demand = s.demand;
+    if 1 <= demand[target] {
+        return 1;
+    }
+    if ranked_up_to(&demand, rank, n, target) {
+        later
+    } else {
+        0
+    }
+}
+
+// The lowest row that is not weighted 1 at every stage upstream of its resource and 0 elsewhere; 0 for none. The stages are
+// gone through from the end, since a stage is upstream by what the stage after it is; none of its type follows a type's last.
+pub(crate) fn faulty_row(p: Plan, end: usize) -> u32
+    requires { ⌜ Sound p × (end ≡ allStages p) ⌝ }
+    ensures { λ r. ⌜ r ≡ faultyRow p ⌝ }
+{
+    let resources = u8_to_usize(p.resources);
+    let types = u8_to_usize(p.types);
+    let rows = u8_to_usize(p.rows);
+    let mut row = 0;
+    'rows: while row < rows {
+        let mut index = end;
+        let mut due = 0;
+        'stages: while 0 < index {
+            if position_of(index, &p.lengths, types).stage == 0 {
+                due = 0;
+            }
+            index -= 1;
+            let s = p.stages[index];
+            due = due_weight(s, &p.rank, resources, row, due);
+            if s.weight[row] != due {
+                break 'rows;
+            }
+        }
+        row += 1;
+    }
+    if row < rows { (row + 1) as u32 } else { 0 }
+}
+
+fn u16_to_usize(x: u16) -> usize
+    ensures { λ r. ⌜ r ≡ x ⌝ }
+{
+    x as usize
+}
+
+// The lowest row whose bound is not between 1 and the capacity of its resource; 0 for none.
+pub(crate) fn faulty_bound<'a>(bound: &'a [u16; 32], capacity: &'a [u8; 32], n: usize) -> u32
+    requires { ⌜ n ≤ 32 ⌝ }
+    ensures { λ r. ⌜ r ≡ lowest n (λ (i : ℕ). inRange (at (now (bound .entry)) i) (at (now (capacity .entry)) i)) ⌝ }
+{
+    let mut i = 0;
+    while i < n {
+        let b = u16_to_usize(bound[i]);
+        if b < 1 || u8_to_usize(capacity[i]) < b {
+            return (i + 1) as u32;
+        }
+        i += 1;
+    }
+    0
+}
