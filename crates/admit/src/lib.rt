@@ -1,10 +1,9 @@
 // The three events on a job list: the questions in their order, and the list afterwards as a new value.
 ghost use mathlib.Core.Path.{_≡_};
-ghost use Rattle.model.specs.Numbers.{inRange};
 ghost use Rattle.model.specs.Plan.{noStage};
-ghost use Rattle.events.specs.JobList.{jobsOf};
 ghost use Rattle.events.specs.Events.{listOutcome};
-ghost use Rattle.parts.specs.Parts.{positionOf, foundIn, nameAnswer, loadAnswer, agreed};
+ghost use Rattle.parts.specs.Parts.{refusal};
+ghost use Rattle.admit.specs.MoveAsked.{MoveAsked};
 use agreement::agree;
 use events::Answer;
 use events::Event;
@@ -19,15 +18,12 @@ use model::Plan;
 use model::Stage;
 use parts::Agreement;
 use parts::Found;
+use questions::load_answer;
+use questions::move_answer;
+use questions::stage_met;
 use stages::length_of;
 use stages::stage_index;
 use sums::kept_after;
-
-fn in_range(i: u32, n: u32) -> bool
-    ensures { λ r. ⌜ r ≡ inRange i n ⌝ }
-{
-    if i < 1 { false } else { i <= n }
-}
 
 fn no_stage() -> Stage
     ensures { λ r. ⌜ r ≡ noStage ⌝ }
@@ -38,67 +34,33 @@ fn no_stage() -> Stage
     }
 }
 
-// Questions 13 to 16 of a load, asked where those before were answered 0, by where the search for the number ended.
-fn load_answer(first: Answer, count: usize, at: usize, types: u32, job: u32, kind: u32) -> Answer
-    ensures { λ r. ⌜ r ≡ loadAnswer first count at types job kind ⌝ }
-{
-    let Answer::Admitted = first else {
-        return first;
-    };
-    let numbered = in_range(job, 65535);
-    let active = at < count;
-    let known = in_range(kind, types);
-    let room = count < 64;
-    if !numbered {
-        return Answer::BadNumber;
-    }
-    if active {
-        return Answer::WrongActivity;
-    }
-    if !known {
-        return Answer::UnknownType;
-    }
-    if !room {
-        return Answer::Full;
-    }
-    Answer::Admitted
-}
-
-// Questions 13 and 14 of a move, in the same way.
-fn name_answer(first: Answer, count: usize, at: usize, job: u32) -> Answer
-    ensures { λ r. ⌜ r ≡ nameAnswer first count at job ⌝ }
-{
-    let Answer::Admitted = first else {
-        return first;
-    };
-    if !in_range(job, 65535) {
-        return Answer::BadNumber;
-    }
-    if at < count {
-        return Answer::Admitted;
-    }
-    Answer::WrongActivity
-}
-
-// Questions 11 to 14 of a move, with the agreement and the job that it names.
-pub(crate) struct Named {
+// Questions 11 to 14 and 17 of a move, with the agreement and the job that it names.
+pub(crate) struct Asked {
     pub answer: Answer,
     pub agreement: Agreement,
     pub found: Found,
 }
 
-fn name_job(p: Plan, t: JobList, job: u32) -> Named
-    ensures { λ r. ⌜ (r .answer ≡ nameAnswer (agreed p t .answer) (t .count) (positionOf job (jobsOf t)) job) × (r .agreement ≡ agreed p t) × (r .found ≡ foundIn job (jobsOf t)) ⌝ }
+fn ask_move(p: Plan, t: JobList, job: u32, unloads: bool) -> Asked
+    ensures { λ r. ⌜ MoveAsked p t job unloads r ⌝ }
 {
     let agreement = agree(p, t);
     let first = agreement.answer;
     let found = look_up(t, job);
-    let answer = name_answer(first, t.count, found.at, job);
-    Named {
-        answer,
+    let j = found.job;
+    let lengths = p.lengths;
+    let met = stage_met(j.stage, length_of(&lengths, j.kind), unloads);
+    Asked {
+        answer: move_answer(first, t.count, found.at, job, met),
         agreement,
         found,
     }
+}
+
+fn refused(answer: Answer, t: JobList) -> ListOutcome
+    ensures { λ r. ⌜ r ≡ refusal answer t ⌝ }
+{
+    ListOutcome { answer, list: t }
 }
 
 pub fn load(t: JobList, p: Plan, job: u32, kind: u32) -> ListOutcome
@@ -109,20 +71,14 @@ pub fn load(t: JobList, p: Plan, job: u32, kind: u32) -> ListOutcome
     let found = look_up(t, job);
     let first = load_answer(agreed, t.count, found.at, p.types as u32, job, kind);
     let Answer::Admitted = first else {
-        return ListOutcome {
-            answer: first,
-            list: t,
-        };
+        return refused(first, t);
     };
     let lengths = p.lengths;
     let to = stage_index(&lengths, kind, 1);
     let new = p.stages[to];
     let last = kept_after(agreement.sums, no_stage(), new, agreement.ceilings);
     let Answer::Admitted = last else {
-        return ListOutcome {
-            answer: last,
-            list: t,
-        };
+        return refused(last, t);
     };
     let next = Job {
         number: job,
@@ -138,34 +94,22 @@ pub fn load(t: JobList, p: Plan, job: u32, kind: u32) -> ListOutcome
 pub fn advance(t: JobList, p: Plan, job: u32) -> ListOutcome
     ensures { λ r. ⌜ r ≡ listOutcome p t (Event.Advance job) ⌝ }
 {
-    let named = name_job(p, t, job);
-    let first = named.answer;
+    let asked = ask_move(p, t, job, false);
+    let first = asked.answer;
     let Answer::Admitted = first else {
-        return ListOutcome {
-            answer: first,
-            list: t,
-        };
+        return refused(first, t);
     };
-    let found = named.found;
+    let found = asked.found;
     let j = found.job;
     let lengths = p.lengths;
-    if length_of(&lengths, j.kind) <= j.stage {
-        return ListOutcome {
-            answer: Answer::WrongStage,
-            list: t,
-        };
-    }
     let from = stage_index(&lengths, j.kind, j.stage);
     let old = p.stages[from];
     let to = from + 1;
     let new = p.stages[to];
-    let agreement = named.agreement;
+    let agreement = asked.agreement;
     let last = kept_after(agreement.sums, old, new, agreement.ceilings);
     let Answer::Admitted = last else {
-        return ListOutcome {
-            answer: last,
-            list: t,
-        };
+        return refused(last, t);
     };
     let next = Job {
         number: j.number,
@@ -182,25 +126,14 @@ pub fn advance(t: JobList, p: Plan, job: u32) -> ListOutcome
 pub fn unload(t: JobList, p: Plan, job: u32) -> ListOutcome
     ensures { λ r. ⌜ r ≡ listOutcome p t (Event.Unload job) ⌝ }
 {
-    let named = name_job(p, t, job);
-    let first = named.answer;
+    let asked = ask_move(p, t, job, true);
+    let first = asked.answer;
     let Answer::Admitted = first else {
-        return ListOutcome {
-            answer: first,
-            list: t,
-        };
+        return refused(first, t);
     };
-    let found = named.found;
-    let j = found.job;
-    let lengths = p.lengths;
-    if length_of(&lengths, j.kind) != j.stage {
-        return ListOutcome {
-            answer: Answer::WrongStage,
-            list: t,
-        };
-    }
+    let found = asked.found;
     ListOutcome {
-        answer: Answer::Admitted,
+        answer: first,
         list: without_job(t, found.at),
     }
 }

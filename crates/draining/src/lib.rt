@@ -5,10 +5,9 @@ ghost use lib.ListN.{getD};
 ghost use Rattle.model.specs.Limits.{maxStages, maxJobs};
 ghost use Rattle.model.specs.Soundness.{Sound};
 ghost use Rattle.model.specs.Jobs.{noJob};
-ghost use Rattle.events.specs.JobList.{jobsOf, listOf, Agrees};
-ghost use Rattle.events.specs.Events.{jobsAfter};
-ghost use Rattle.events.specs.Drain.{moveOf, drainFrom, listDrain};
-ghost use Rattle.parts.specs.Parts.{ceilingsOf, earliestPosition};
+ghost use Rattle.events.specs.JobList.{Agrees};
+ghost use Rattle.events.specs.Drain.{drainFrom, listDrain};
+ghost use Rattle.parts.specs.Parts.{ceilingsOf, earliestPosition, movedAt};
 use agreement::agree;
 use events::Answer;
 use events::End;
@@ -55,7 +54,7 @@ fn earliest(p: Plan, t: JobList, ceilings: Ceilings) -> usize
 // at the last stage.
 fn after_move(t: JobList, at: usize, lengths: &[u8; 16]) -> JobList
     requires { ⌜ (at < t .count) × (t .count ≤ maxJobs) × (getD (t .jobs) at noJob .stage ≤ maxStages) ⌝ }
-    ensures { λ r. ⌜ ((p : Plan) → Sound p → Agrees p t → p .lengths ≡ now (lengths .entry) → r ≡ listOf (jobsAfter p (jobsOf t) (moveOf p (getD (t .jobs) at noJob)))) ⌝ }
+    ensures { λ r. ⌜ ((p : Plan) → Sound p → Agrees p t → p .lengths ≡ now (lengths .entry) → r ≡ movedAt p t at) ⌝ }
 {
     let j = t.jobs[at];
     if length_of(lengths, j.kind) == j.stage {

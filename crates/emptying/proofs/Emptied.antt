@@ -57,12 +57,14 @@ run-consistent p sound s [] h = h
 run-consistent p sound s (e ∷ es) h = run-consistent p sound (stateAfter p s e) es (stays-consistent p sound s e h)
 
 -- the admitted moves of a list are the fall in stages still before the jobs
-step-count : (p : Plan) (t : JobList) (e : Event) → IsMove e → cond (isAdmitted (answer p t e)) 1 0 + stagesBefore p (jobsOf (listAfter p t e)) ≡ stagesBefore p (jobsOf t)
+step-count : (p : Plan) (t : JobList) (e : Event) → IsMove e
+    → cond (isAdmitted (answer p t e)) 1 0 + stagesBefore p (jobsOf (listAfter p t e)) ≡ stagesBefore p (jobsOf t)
 step-count p t e move =
     ⊎-elim (λ (h : answer p t e ≡ Admitted). rw (ap isAdmitted h) (move-count p t e move h))
     (λ (h : isAdmitted (answer p t e) ≡ false). rw (h, list-refused p t e h) (omega arith)) (admitted-or-not (answer p t e))
 
-run-count : (p : Plan) (t : JobList) (es : List Event) → Each IsMove es → admittedCount (answers p t es) + stagesBefore p (jobsOf (listAfterAll p t es)) ≡ stagesBefore p (jobsOf t)
+run-count : (p : Plan) (t : JobList) (es : List Event) → Each IsMove es
+    → admittedCount (answers p t es) + stagesBefore p (jobsOf (listAfterAll p t es)) ≡ stagesBefore p (jobsOf t)
 run-count p t [] moves = omega arith
 run-count p t (e ∷ es) moves = omega (arith, run-count p (listAfter p t e) es (moves .1), step-count p t e (moves .0))
 
@@ -113,13 +115,17 @@ emptying-theorem p rule events moves are-moves =
         omega
         (arith, run-count p (between .list) moves are-moves, ap (stagesBefore p) jobs, ap (stagesBefore p) (jobs-of-ledger p between first))
 
-    emptied : (¬ SomeMove p (end .list)) → (end .list ≡ emptyList) × (admittedCount (answers p (between .list) moves) ≡ stagesBefore p (between .ledger .jobs))
+    Emptied : Type 0
+    Emptied = (end .list ≡ emptyList) × (admittedCount (answers p (between .list) moves) ≡ stagesBefore p (between .ledger .jobs))
+
+    emptied : (¬ SomeMove p (end .list)) → Emptied
     emptied closed = go (end .ledger .jobs) refl
       where
-        go : (js : List Job) → end .ledger .jobs ≡ js → (end .list ≡ emptyList) × (admittedCount (answers p (between .list) moves) ≡ stagesBefore p (between .ledger .jobs))
+        go : (js : List Job) → end .ledger .jobs ≡ js → Emptied
         go [] e = (last .same ∙ ap listOf e, omega (arith, count, ap (stagesBefore p) e))
         go (j ∷ js) e = absurd (closed (some-move p rule (end .list) (last .agrees) .1 (λ n. false≢true (ap isEmpty (sym e ∙ sym jobs ∙ n)))))
 
 -- the same for whoever has the check's answer
-pub emptying-passed : (p : Plan) → check p ≡ Meets → (events moves : List Event) → Each IsMove moves → let between = run p start events in EmptyingRule p between (run p between moves) (admittedCount (answers p (between .list) moves))
+pub emptying-passed : (p : Plan) → check p ≡ Meets → (events moves : List Event) → Each IsMove moves
+    → let between = run p start events in EmptyingRule p between (run p between moves) (admittedCount (answers p (between .list) moves))
 emptying-passed p passed = emptying-theorem p (check-exact p .0 passed)

@@ -29,9 +29,13 @@ abbrev pub Balanced : Plan → Ledger → Type 0
 Balanced p l = (r : ℕ) → l .taken r ≡ l .given r + unitsHeld p r (l .jobs)
 
 -- per resource an advance takes what the new stage demands above the old and gives back what the old demands above the new
-pub advance-units : (p : Plan) {n : ℕ} {js : List Job} (a : Active n js) → AtStage p (a .here .item) → HasNext p (a .here .item) → (r : ℕ) → unitsHeld p r (advancedAt p (a .here)) + gives p (a .here .item) r ≡ unitsHeld p r js + takes p (a .here .item) r
+pub advance-units : (p : Plan) {n : ℕ} {js : List Job} (a : Active n js) → AtStage p (a .here .item) → HasNext p (a .here .item)
+    → (r : ℕ) → unitsHeld p r (advancedAt p (a .here)) + gives p (a .here .item) r ≡ unitsHeld p r js + takes p (a .here .item) r
 advance-units p a here next r =
-    omega (arith, ap (unitsHeld p r) (a .here .whole), over-stages-moved p (demandOf p r) (a .here .before) (a .here .after) (a .here .item) (advancedJob p (a .here .item)) here (here .0, omega (arith, next)))
+    let next-job = advancedJob p (a .here .item) in
+    let there : AtStage p next-job = (here .0, omega (arith, next)) in
+    let moved = over-stages-moved p (demandOf p r) (a .here .before) (a .here .after) (a .here .item) next-job here there in
+    omega (arith, ap (unitsHeld p r) (a .here .whole), moved)
 
 module _ (p : Plan) (sound : Sound p) (l : Ledger) (agreeing : Agreeing p (l .jobs)) (balanced : Balanced p l) where
   -- what is written of an event whose questions are met
@@ -54,7 +58,8 @@ module _ (p : Plan) (sound : Sound p) (l : Ledger) (agreeing : Agreeing p (l .jo
       found : Found p n (l .jobs) a
       found = names p sound (l .jobs) agreeing n a
 
-      balance : (r : ℕ) → l .taken r + takes p (jobOf n (l .jobs)) r ≡ l .given r + gives p (jobOf n (l .jobs)) r + unitsHeld p r (jobsAfter p (l .jobs) (Advance n))
+      balance : (r : ℕ)
+          → let job = jobOf n (l .jobs) in l .taken r + takes p job r ≡ l .given r + gives p job r + unitsHeld p r (jobsAfter p (l .jobs) (Advance n))
       balance r =
           rw (found .advance, found .job)
           (omega (arith, balanced r, advance-units p a (staged-job p sound (l .jobs) agreeing n a) (h .1 .1 .0 a) r))
@@ -68,8 +73,9 @@ module _ (p : Plan) (sound : Sound p) (l : Ledger) (agreeing : Agreeing p (l .jo
 
       balance : (r : ℕ) → l .taken r ≡ l .given r + demandAt p (jobOf n (l .jobs)) r + unitsHeld p r (jobsAfter p (l .jobs) (Unload n))
       balance r =
-          rw (found .unload, found .job)
-          (omega (arith, balanced r, ap (unitsHeld p r) (a .here .whole), over-stages-removed p (demandOf p r) (a .here .before) (a .here .after) (a .here .item) (staged-job p sound (l .jobs) agreeing n a)))
+          let here = staged-job p sound (l .jobs) agreeing n a in
+          let removed = over-stages-removed p (demandOf p r) (a .here .before) (a .here .after) (a .here .item) here in
+          rw (found .unload, found .job) (omega (arith, balanced r, ap (unitsHeld p r) (a .here .whole), removed))
 
 -- a table and a ledger that hold the same jobs, balanced
 pub record Consistent (p : Plan) (s : State) : Type 0 where

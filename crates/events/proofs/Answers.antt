@@ -1,6 +1,6 @@
 -- Demand 2, of the events' meaning: each computed question decides its worded one where those before it hold, and a number
 -- that is active names one job, so the list after an event is the one that the model names.
-use Prim.Native.Nat.{ℕ, _≤_, _<_}
+use Prim.Native.Nat.{ℕ, suc, _+_, _≤_, _<_}
 use native.Mathlib.Omega.{arith}
 use mathlib.Core.Bool.{Bool, false}
 use mathlib.Core.List.{List, [], _∷_, _++_}
@@ -16,19 +16,23 @@ use Rattle.model.specs.Jobs.{HasNext, IsLast, advancedAt, removedAt, advanced, 
 use Rattle.model.specs.Soundness.{Sound}
 use Rattle.model.specs.declared.Plan.{Plan}
 use Rattle.model.specs.declared.Job.{Job}
-use Rattle.model.proofs.Decide.{Decides, decides-iff, decides-not, decides-lt, decides-eq, decides-range, Answers, AllHold, done, asked, first-failure, accepted, all-hold}
+use Rattle.model.proofs.Decide.{Decides, decides-iff, decides-not, decides-lt, decides-eq, decides-range}
+use Rattle.model.proofs.Decide.{Answers, AllHold, done, asked, first-failure, accepted, all-hold}
 use Rattle.model.proofs.Lists.{append-each, each-at, each-removed, each-moved}
-use Rattle.model.proofs.Jobs.{distinct-moved, distinct-removed, distinct-added, Found, found, decides-active, decides-capacities, decides-rows, lowest-exceeded, lowest-broken}
+use Rattle.model.proofs.Jobs.{distinct-moved, distinct-removed, distinct-added, Found, found}
+use Rattle.model.proofs.Jobs.{decides-active, decides-capacities, decides-rows, lowest-exceeded, lowest-broken}
 use Rattle.model.proofs.Progress.{removed-keeps-capacities, removed-keeps-rows}
 use Rattle.model.proofs.Soundness.{decides-sound}
 use Rattle.events.specs.JobList.{jobsOf, listOf, Agrees}
 use Rattle.events.specs.Events.{LeadsTo, Allowed, WellNamed, Afterwards, jobsAfter, keptConditions, ownConditions, firstConditions, eventConditions}
-use Rattle.events.specs.Events.{keptQuestions, ownQuestions, firstQuestions, eventQuestions, agreement, answer, isAdmitted, listAfter, Judged, answerNumbers, Says}
+use Rattle.events.specs.Events.{keptQuestions, ownQuestions, firstQuestions, eventQuestions}
+use Rattle.events.specs.Events.{agreement, answer, isAdmitted, listAfter, Judged, answerNumbers, Says}
 use Rattle.events.specs.declared.JobList.{JobList}
 use Rattle.events.specs.declared.Event.{Event}
 use Rattle.events.specs.declared.Event.the-variants.{Load, Advance, Unload}
 use Rattle.events.specs.declared.Answer.{Answer}
-use Rattle.events.specs.declared.Answer.the-variants.{Admitted, UnsoundPlan, Disagreement, BadNumber, WrongActivity, UnknownType, Full, WrongStage, OverCapacity, RowBroken}
+use Rattle.events.specs.declared.Answer.the-variants.{Admitted, UnsoundPlan, Disagreement, BadNumber, WrongActivity}
+use Rattle.events.specs.declared.Answer.the-variants.{UnknownType, Full, WrongStage, OverCapacity, RowBroken}
 use Rattle.events.proofs.JobLists.{agreeing-list, decides-agrees}
 
 -- the type that a load names is one of the plan's
@@ -44,8 +48,21 @@ module _ (p : Plan) (sound : Sound p) (js : List Job) (agreeing : Agreeing p js)
     parts : (P : Job → Type 0) → Each P js → Each P (a .here .before ++ a .here .item ∷ a .here .after)
     parts P h = subst (Each P) (a .here .whole) h
 
+    -- and of the job named, and of the jobs after its advance and its unload
+    at-job : (P : Job → Type 0) → Each P js → P (a .here .item)
+    at-job P h = each-at P (a .here .before) (a .here .item) (a .here .after) (parts P h)
+
+    each-advanced : (P : Job → Type 0) → P (advancedJob p (a .here .item)) → Each P js → Each P (advancedAt p (a .here))
+    each-advanced P moved h = each-moved P (a .here .before) (a .here .item) (advancedJob p (a .here .item)) (a .here .after) moved (parts P h)
+
+    each-unloaded : (P : Job → Type 0) → Each P js → Each P (removedAt (a .here))
+    each-unloaded P h = each-removed P (a .here .before) (a .here .item) (a .here .after) (parts P h)
+
+    length-whole : length js ≡ length (a .here .before) + suc (length (a .here .after))
+    length-whole = ap length (a .here .whole) ∙ length-append (a .here .before) (a .here .item ∷ a .here .after)
+
     pub staged-job : AtStage p (a .here .item)
-    staged-job = each-at (AtStage p) (a .here .before) (a .here .item) (a .here .after) (parts (AtStage p) (agreeing .staged))
+    staged-job = at-job (AtStage p) (agreeing .staged)
 
     pub names : Found p n js a
     names = found p a (agreeing .distinct)
@@ -74,11 +91,9 @@ module _ (p : Plan) (sound : Sound p) (js : List Job) (agreeing : Agreeing p js)
       rw h (append-each (AtStage p) js (loadedJob n t ∷ []) (agreeing .staged) ((type, omega (arith, sound .lengths t type)), tt))
   staged-after (Advance n) next type h =
       let a = h .0 in
-      rw (h .2)
-      (each-moved (AtStage p) (a .here .before) (a .here .item) (advancedJob p (a .here .item)) (a .here .after) (staged-job n a .0, omega (arith, h .1)) (parts n a (AtStage p) (agreeing .staged)))
+      rw (h .2) (each-advanced n a (AtStage p) (staged-job n a .0, omega (arith, h .1)) (agreeing .staged))
   staged-after (Unload n) next type h =
-      let a = h .0 in
-      rw (h .2) (each-removed (AtStage p) (a .here .before) (a .here .item) (a .here .after) (parts n a (AtStage p) (agreeing .staged)))
+      rw (h .2) (each-unloaded n (h .0) (AtStage p) (agreeing .staged))
 
   -- the last two questions: what holds of the list computed holds of the list named
   module _ (e : Event) (type : TypeInPlan p e) (leads : LeadsTo p js e (jobsAfter p js e)) where
@@ -88,15 +103,21 @@ module _ (p : Plan) (sound : Sound p) (js : List Job) (agreeing : Agreeing p js)
     decides-after : (P : List Job → Type 0) {b : Bool} → Decides (P (jobsAfter p js e)) b → Decides (Afterwards p js e P) b
     decides-after P d = decides-iff (afterwards P) (λ h. h (jobsAfter p js e) leads) d
 
-    place-after : (says : ℕ → Type 0) (P : List Job → Type 0) (Place : List Job → ℕ → Type 0) (i : ℕ) → says i → ((¬ P (jobsAfter p js e)) → Place (jobsAfter p js e) i) → (¬ Afterwards p js e P) → (r : ℕ) × says r × (next : List Job) × LeadsTo p js e next × Place next r
+    place-after : (says : ℕ → Type 0) (P : List Job → Type 0) (Place : List Job → ℕ → Type 0) (i : ℕ) → says i
+        → ((¬ P (jobsAfter p js e)) → Place (jobsAfter p js e) i) → (¬ Afterwards p js e P)
+        → (r : ℕ) × says r × (next : List Job) × LeadsTo p js e next × Place next r
     place-after says P Place i said found h = (i, said, jobsAfter p js e, leads, found (λ k. h (afterwards P k)))
 
     kept-answers : Answers isAdmitted (keptQuestions p (jobsAfter p js e)) (keptConditions p js e)
     kept-answers =
         let l = jobsAfter p js e in
         let staged = staged-after e l type leads in
-        asked (decides-after (KeepsCapacities p) (decides-capacities p l staged)) (place-after (λ r. Says 18 r (OverCapacity (exceeded p l))) (KeepsCapacities p) (Exceeded p) (exceeded p l) refl (lowest-exceeded p l staged)) refl λ _.
-        asked (decides-after (KeepsRows p) (decides-rows p l staged)) (place-after (λ w. Says 19 w (RowBroken (broken p l))) (KeepsRows p) (Broken p) (broken p l) refl (lowest-broken p l staged)) refl λ _.
+        let r = exceeded p l in
+        let w = broken p l in
+        let over = place-after (λ i. Says 18 i (OverCapacity r)) (KeepsCapacities p) (Exceeded p) r refl (lowest-exceeded p l staged) in
+        let row = place-after (λ i. Says 19 i (RowBroken w)) (KeepsRows p) (Broken p) w refl (lowest-broken p l staged) in
+        asked (decides-after (KeepsCapacities p) (decides-capacities p l staged)) over refl λ _.
+        asked (decides-after (KeepsRows p) (decides-rows p l staged)) row refl λ _.
         done
 
   own-answers : (e : Event) → Answers isAdmitted (ownQuestions p js e) (ownConditions p js e)
@@ -138,22 +159,19 @@ module _ (p : Plan) (sound : Sound p) (js : List Job) (agreeing : Agreeing p js)
   own-length (Advance n) h few =
       let a = h .1 .0 in
       rw (names n a .advance)
-      (omega (arith, length-append (a .here .before) (advancedJob p (a .here .item) ∷ a .here .after), length-append (a .here .before) (a .here .item ∷ a .here .after), ap length (a .here .whole)))
+      (omega (arith, length-append (a .here .before) (advancedJob p (a .here .item) ∷ a .here .after), length-whole n a))
   own-length (Unload n) h few =
       let a = h .1 .0 in
-      rw (names n a .unload)
-      (omega (arith, length-append (a .here .before) (a .here .after), length-append (a .here .before) (a .here .item ∷ a .here .after), ap length (a .here .whole)))
+      rw (names n a .unload) (omega (arith, length-append (a .here .before) (a .here .after), length-whole n a))
 
   own-numbered : (e : Event) → AllHold (ownConditions p js e) → Each Numbered (jobsAfter p js e)
   own-numbered (Load n t) h = append-each Numbered js (loadedJob n t ∷ []) (agreeing .numbered) (h .0, tt)
   own-numbered (Advance n) h =
       let a = h .1 .0 in
-      let numbered = parts n a Numbered (agreeing .numbered) in
-      rw (names n a .advance)
-      (each-moved Numbered (a .here .before) (a .here .item) (advancedJob p (a .here .item)) (a .here .after) (each-at Numbered (a .here .before) (a .here .item) (a .here .after) numbered) numbered)
+      rw (names n a .advance) (each-advanced n a Numbered (at-job n a Numbered (agreeing .numbered)) (agreeing .numbered))
   own-numbered (Unload n) h =
       let a = h .1 .0 in
-      rw (names n a .unload) (each-removed Numbered (a .here .before) (a .here .item) (a .here .after) (parts n a Numbered (agreeing .numbered)))
+      rw (names n a .unload) (each-unloaded n a Numbered (agreeing .numbered))
 
   own-distinct : (e : Event) → AllHold (ownConditions p js e) → Distinct (numbers (jobsAfter p js e))
   own-distinct (Load n t) h = distinct-added js (loadedJob n t) (h .1 .0) (agreeing .distinct)
@@ -182,8 +200,7 @@ module _ (p : Plan) (sound : Sound p) (js : List Job) (agreeing : Agreeing p js)
   -- an active number is in range
   active-range : (n : ℕ) → Active n js → InRange n maxNumber
   active-range n a =
-      subst (λ (m : ℕ). InRange m maxNumber) (a .numbered)
-      (each-at Numbered (a .here .before) (a .here .item) (a .here .after) (parts n a Numbered (agreeing .numbered)))
+      subst (λ (m : ℕ). InRange m maxNumber) (a .numbered) (at-job n a Numbered (agreeing .numbered))
 
   -- a well named event that is allowed meets its own questions
   allowed-kept : (e : Event) → Allowed p js e → AllHold (keptConditions p js e)
@@ -206,9 +223,11 @@ module _ (p : Plan) (sound : Sound p) (js : List Job) (agreeing : Agreeing p js)
   unload-keeps : (n : ℕ) {next : List Job} → LeadsTo p js (Unload n) next → KeepsCapacities p next × KeepsRows p next
   unload-keeps n h =
       let a = h .0 in
-      let here = staged-job n a in (
-        rw (h .2) (removed-keeps-capacities p (a .here .before) (a .here .after) (a .here .item) here (subst (KeepsCapacities p) (a .here .whole) (agreeing .capacities))),
-        rw (h .2) (removed-keeps-rows p (a .here .before) (a .here .after) (a .here .item) here (subst (KeepsRows p) (a .here .whole) (agreeing .rows))),
+      let here = staged-job n a in
+      let capacities = subst (KeepsCapacities p) (a .here .whole) (agreeing .capacities) in
+      let rows = subst (KeepsRows p) (a .here .whole) (agreeing .rows) in (
+        rw (h .2) (removed-keeps-capacities p (a .here .before) (a .here .after) (a .here .item) here capacities),
+        rw (h .2) (removed-keeps-rows p (a .here .before) (a .here .after) (a .here .item) here rows),
       )
 
   -- a job at its last stage can be unloaded
@@ -279,8 +298,9 @@ agrees-after p t e sound agrees = ⊎-elim yes (λ h. rw (list-refused p t e h) 
     yes : answer p t e ≡ Admitted → Agrees p (listAfter p t e)
     yes h =
         let own = admitted-holds p t e h .1 .1 in
-        rw (list-admitted p t e h)
-        (agreeing-list p (jobsAfter p (jobsOf t) e) (own-length p sound (jobsOf t) (agrees .jobs) e own few) (own-agreeing p sound (jobsOf t) (agrees .jobs) e own))
+        let few-after = own-length p sound (jobsOf t) (agrees .jobs) e own few in
+        let agreeing-after = own-agreeing p sound (jobsOf t) (agrees .jobs) e own in
+        rw (list-admitted p t e h) (agreeing-list p (jobsAfter p (jobsOf t) e) few-after agreeing-after)
 
 -- demand 2: a well named event is judged as the model and the plan's inequalities do
 pub judged : (p : Plan) (t : JobList) (e : Event) → Sound p → Agrees p t → WellNamed p (jobsOf t) e → Judged p t e
@@ -296,7 +316,8 @@ judged p t e sound agrees named =
     admits : Allowed p (jobsOf t) e → answer p t e ≡ Admitted
     admits a = holds-admitted p t e (sound, (agrees, allowed-own p sound (jobsOf t) (agrees .jobs) e named a))
 
-pub unload-admitted : (p : Plan) (t : JobList) (n : ℕ) → Sound p → Agrees p t → (a : Active n (jobsOf t)) → IsLast p (a .here .item) → answer p t (Unload n) ≡ Admitted
+pub unload-admitted : (p : Plan) (t : JobList) (n : ℕ) → Sound p → Agrees p t → (a : Active n (jobsOf t)) → IsLast p (a .here .item)
+    → answer p t (Unload n) ≡ Admitted
 unload-admitted p t n sound agrees a last =
     judged p t (Unload n) sound agrees a .exact .1 (unload-allowed p sound (jobsOf t) (agrees .jobs) n a last)
 

@@ -18,7 +18,8 @@ use Rattle.model.proofs.Lists.{split-first, split-later, each-at}
 use Rattle.model.proofs.Soundness.{decides-sound}
 use Rattle.events.specs.JobList.{jobsOf, listOf, emptyList, Agrees, agrees}
 use Rattle.events.specs.Events.{IsMove, answer, isAdmitted, listAfter}
-use Rattle.events.specs.Drain.{stagesBefore, moveOf, Blocked, Earliest, Moves, stay, move, earliest, isEmpty, stopped, oneMore, goOn, drainFrom, listDrain, Movable, drainConditions, DrainRule}
+use Rattle.events.specs.Drain.{stagesBefore, moveOf, Blocked, Earliest, Moves, stay, move, Movable, drainConditions, DrainRule}
+use Rattle.events.specs.Drain.{earliest, isEmpty, stopped, oneMore, goOn, drainFrom, listDrain}
 use Rattle.events.specs.declared.JobList.{JobList}
 use Rattle.events.specs.declared.Event.{Event}
 use Rattle.events.specs.declared.Answer.the-variants.{Admitted}
@@ -46,7 +47,8 @@ earliest-searched p t (j ∷ js) = step (admitted-or-not (answer p t (moveOf p j
     later (some e) b s =
         record { here = split-later j (s .here); move = s .move; admitted = s .admitted; earlier = (b, s .earlier) }
 
-    step : (answer p t (moveOf p j) ≡ Admitted) ⊎ (isAdmitted (answer p t (moveOf p j)) ≡ false) → Searched p t js (earliest p t js) → Searched p t (j ∷ js) (earliest p t (j ∷ js))
+    step : (answer p t (moveOf p j) ≡ Admitted) ⊎ (isAdmitted (answer p t (moveOf p j)) ≡ false) → Searched p t js (earliest p t js)
+        → Searched p t (j ∷ js) (earliest p t (j ∷ js))
     step (inl h) s =
         let here : Earliest p t (j ∷ js) (moveOf p j) = record { here = split-first j js; move = refl; admitted = h; earlier = tt } in
         rw (ap isAdmitted h) here
@@ -114,7 +116,8 @@ module _ (p : Plan) (sound : Sound p) where
       record { chain = stay; agrees = agrees; ended = (sound, agrees, omega arith, emptied-list t agrees e) }
 
   -- one more move before the same end
-  longer : (t u : JobList) (budget : ℕ) (d : ListDrained) (end : End) → Agrees p t → Ended p u budget d end → Agrees p u → Ended p t (suc budget) (oneMore d) end
+  longer : (t u : JobList) (budget : ℕ) (d : ListDrained) (end : End) → Agrees p t → Ended p u budget d end → Agrees p u
+      → Ended p t (suc budget) (oneMore d) end
   longer t u budget d Emptied agrees h k = (sound, agrees, omega (arith, h .2), h .3)
   longer t u budget d UnsoundPlan agrees h k = absurd (h .0 sound)
   longer t u budget d Disagreement agrees h k = absurd (h .1 k)
@@ -133,7 +136,10 @@ module _ (p : Plan) (sound : Sound p) where
       further : Event → ListDrained
       further e = drainFrom p budget (listAfter p t e)
 
-      choose : (o : Option Event) → jobsOf t ≢ [] → Searched p t (jobsOf t) o → ((e : Event) → AgreeingDrain (listAfter p t e) budget (further e)) → AgreeingDrain t (suc budget) (goOn t further o)
+      Further : Type 0
+      Further = (e : Event) → AgreeingDrain (listAfter p t e) budget (further e)
+
+      choose : (o : Option Event) → jobsOf t ≢ [] → Searched p t (jobsOf t) o → Further → AgreeingDrain t (suc budget) (goOn t further o)
       choose none left s rest = record { chain = stay; agrees = agrees; ended = (sound, agrees, omega arith, left, s) }
       choose (some e) left s rest =
           record {
@@ -142,7 +148,7 @@ module _ (p : Plan) (sound : Sound p) where
             ended = longer t (listAfter p t e) budget (further e) (further e .end) agrees (rest e .ended) (agrees-after p t e sound agrees);
           }
 
-      step : EmptyOrNot (jobsOf t) → ((e : Event) → AgreeingDrain (listAfter p t e) budget (further e)) → AgreeingDrain t (suc budget) (drainFrom p (suc budget) t)
+      step : EmptyOrNot (jobsOf t) → Further → AgreeingDrain t (suc budget) (drainFrom p (suc budget) t)
       step (inl h) rest = rw (h .1) (drain-of-empty t (suc budget) agrees (h .0))
       step (inr h) rest = rw (h .1) (choose (earliest p t (jobsOf t)) (h .0) (earliest-searched p t (jobsOf t)) rest)
 
@@ -154,7 +160,8 @@ chain-count p (move {t} {u} {n} e found rest) =
 
 -- under the upstream rule a drain with budget enough stops with no job left
 module _ (p : Plan) (rule : UpstreamRule p) (t : JobList) (first : Agrees p t) (budget : ℕ) (d : ListDrained) where
-  ended-empty : Agrees p (d .list) → d .moves + stagesBefore p (jobsOf (d .list)) ≤ budget → (end : End) → Ended p t budget d end → (end ≡ Emptied) × (d .list ≡ emptyList)
+  ended-empty : Agrees p (d .list) → d .moves + stagesBefore p (jobsOf (d .list)) ≤ budget
+      → (end : End) → Ended p t budget d end → (end ≡ Emptied) × (d .list ≡ emptyList)
   ended-empty agrees enough Emptied h = (refl, h .3)
   ended-empty agrees enough UnsoundPlan h = absurd (h .0 (rule .sound))
   ended-empty agrees enough Disagreement h = absurd (h .1 first)
@@ -182,7 +189,8 @@ drain-rule p t budget = step (decides-sound p) (decides-agrees p t)
           empties = λ upstream a enough. ended-empty p upstream t a budget d (agrees a) (omega arith) (d .end) h;
         }
 
-    step : {a b : Bool} → Decides (Sound p) a → Decides (Agrees p t) b → DrainRule p t budget (cond a (cond b (drainFrom p budget t) (stopped Disagreement t)) (stopped UnsoundPlan t))
+    step : {a b : Bool} → Decides (Sound p) a → Decides (Agrees p t) b
+        → DrainRule p t budget (cond a (cond b (drainFrom p budget t) (stopped Disagreement t)) (stopped UnsoundPlan t))
     step (failing h) d = rule (stopped UnsoundPlan t) (h, refl, refl) stay (λ a. a)
     step (holding h) (failing k) = rule (stopped Disagreement t) (h, k, refl, refl) stay (λ a. a)
     step (holding h) (holding k) =

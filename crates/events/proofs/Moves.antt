@@ -35,12 +35,15 @@ leads-count : (p : Plan) (js : List Job) (e : Event) → IsMove e → (next : Li
 leads-count p js (Load n t) move next h = absurd move
 leads-count p js (Advance n) move next h =
     let a = h .0 in
-    omega (arith, ap (stagesBefore p) (h .2), ap (stagesBefore p) (a .here .whole), h .1, over-jobs-moved (stagesLeft p) (a .here .before) (a .here .after) (a .here .item) (advancedJob p (a .here .item)))
+    let moved = over-jobs-moved (stagesLeft p) (a .here .before) (a .here .after) (a .here .item) (advancedJob p (a .here .item)) in
+    omega (arith, ap (stagesBefore p) (h .2), ap (stagesBefore p) (a .here .whole), h .1, moved)
 leads-count p js (Unload n) move next h =
     let a = h .0 in
-    omega (arith, ap (stagesBefore p) (h .2), ap (stagesBefore p) (a .here .whole), h .1, over-jobs-removed (stagesLeft p) (a .here .before) (a .here .after) (a .here .item))
+    let removed = over-jobs-removed (stagesLeft p) (a .here .before) (a .here .after) (a .here .item) in
+    omega (arith, ap (stagesBefore p) (h .2), ap (stagesBefore p) (a .here .whole), h .1, removed)
 
-pub move-count : (p : Plan) (t : JobList) (e : Event) → IsMove e → answer p t e ≡ Admitted → 1 + stagesBefore p (jobsOf (listAfter p t e)) ≡ stagesBefore p (jobsOf t)
+pub move-count : (p : Plan) (t : JobList) (e : Event) → IsMove e → answer p t e ≡ Admitted
+    → 1 + stagesBefore p (jobsOf (listAfter p t e)) ≡ stagesBefore p (jobsOf t)
 move-count p t e move h =
     let holds = admitted-holds p t e h in
     rw (jobs-admitted p t e h)
@@ -56,24 +59,27 @@ job-moves p j = go (isLast p j)
 
 pub movable-job : (p : Plan) (t : JobList) → UpstreamRule p → Agrees p t → jobsOf t ≢ [] → Movable p t
 movable-job p t rule agrees some =
-    record { here = m .here; admitted = move (decided (decides-eq (m .here .item .stage) (lengthOf p (m .here .item .kind)))) }
+    record { here = m .here; admitted = move (decided (decides-eq (job .stage) (lengthOf p (job .kind)))) }
   where
     m : FreeJob p rule (jobsOf t)
     m = progress p rule (jobsOf t) some (agrees .jobs .staged) (agrees .jobs .rows)
 
-    active : Active (m .here .item .number) (jobsOf t)
+    job : Job
+    job = m .here .item
+
+    active : Active (job .number) (jobsOf t)
     active = record { here = m .here; numbered = refl }
 
-    staged : AtStage p (m .here .item)
+    staged : AtStage p job
     staged =
-        each-at (AtStage p) (m .here .before) (m .here .item) (m .here .after) (subst (Each (AtStage p)) (m .here .whole) (agrees .jobs .staged))
+        each-at (AtStage p) (m .here .before) job (m .here .after) (subst (Each (AtStage p)) (m .here .whole) (agrees .jobs .staged))
 
-    move : (m .here .item .stage ≡ lengthOf p (m .here .item .kind)) ⊎ (m .here .item .stage ≢ lengthOf p (m .here .item .kind)) → answer p t (moveOf p (m .here .item)) ≡ Admitted
+    move : (job .stage ≡ lengthOf p (job .kind)) ⊎ (job .stage ≢ lengthOf p (job .kind)) → answer p t (moveOf p job) ≡ Admitted
     move (inl last) =
-        rw (eq-eqb (m .here .item .stage) (lengthOf p (m .here .item .kind)) last)
-        (unload-admitted p t (m .here .item .number) (rule .sound) agrees active last)
+        rw (eq-eqb (job .stage) (lengthOf p (job .kind)) last)
+        (unload-admitted p t (job .number) (rule .sound) agrees active last)
     move (inr other) =
-        let next : m .here .item .stage < lengthOf p (m .here .item .kind) = omega (arith, staged .1 .1) in
-        rw (ne-eqb (m .here .item .stage) (lengthOf p (m .here .item .kind)) other)
-        (judged p t (Advance (m .here .item .number)) (rule .sound) agrees active .exact .1
+        let next : job .stage < lengthOf p (job .kind) = omega (arith, staged .1 .1) in
+        rw (ne-eqb (job .stage) (lengthOf p (job .kind)) other)
+        (judged p t (Advance (job .number)) (rule .sound) agrees active .exact .1
         (record { next = advancedAt p (m .here); leads = (active, next, refl); capacities = m .capacities next; rows = m .rows next }))

@@ -190,7 +190,9 @@ module _ {A : Type 0} {P : A → Type 0} {f : A → Bool} (d : (x : A) → Decid
 -- says what it should, and no refusal is the acceptance.
 pub data Answers {A : Type 0} (isOk : A → Bool) : List (Question A) → List (Condition A) → Type 1 where
   done : Answers isOk [] []
-  asked : {q : Question A} {c : Condition A} {qs : List (Question A)} {cs : List (Condition A)} → Decides (c .holds) (q .met) → ((¬ c .holds) → c .refusal (q .refusal)) → isOk (q .refusal) ≡ false → (c .holds → Answers isOk qs cs) → Answers isOk (q ∷ qs) (c ∷ cs)
+  asked : {q : Question A} {c : Condition A} {qs : List (Question A)} {cs : List (Condition A)}
+      → Decides (c .holds) (q .met) → ((¬ c .holds) → c .refusal (q .refusal)) → isOk (q .refusal) ≡ false → (c .holds → Answers isOk qs cs)
+      → Answers isOk (q ∷ qs) (c ∷ cs)
 
 abbrev pub AllHold : {A : Type 0} → List (Condition A) → Type 0
 AllHold [] = Unit {0}
@@ -214,6 +216,7 @@ module _ {A : Type 0} (isOk : A → Bool) (ok : A) where
   all-hold done h = tt
   all-hold (asked {q} {c} {qs} {cs} d r o rest) h = step (λ k. all-hold (rest k)) d h
     where
-      step : (c .holds → isOk (answerOf ok qs) ≡ true → AllHold cs) → {b : Bool} → Decides (c .holds) b → isOk (cond b (answerOf ok qs) (q .refusal)) ≡ true → c .holds × AllHold cs
+      step : (c .holds → isOk (answerOf ok qs) ≡ true → AllHold cs)
+          → {b : Bool} → Decides (c .holds) b → isOk (cond b (answerOf ok qs) (q .refusal)) ≡ true → c .holds × AllHold cs
       step later (holding k) accepted = (k, later k accepted)
       step later (failing k) accepted = absurd (false≢true (sym o ∙ accepted))

@@ -1,4 +1,5 @@
--- The flag of a chain of tests, where the way that asked the next test meets the way that did not.
+-- For code that chains tests with `&&` or `||` and keeps the result in a local: what the flag is where the branch that asked
+-- the next test meets the branch that did not.
 use mathlib.Core.Bool.{Bool, true, false, _&&_, _||_}
 use mathlib.Core.Logic.{_⊎_, inl, inr}
 use mathlib.Core.Path.{_≡_, _∙_}

@@ -12,10 +12,12 @@ use borrow.Author.Tests.{eq-eqb, ne-eqb}
 use Rattle.model.specs.Limits.{maxNumber}
 use Rattle.model.specs.Numbers.{Each, Distinct}
 use Rattle.model.specs.Plan.{capacityOf, boundOf, demandOf, weightOf, lengthOf}
-use Rattle.model.specs.Jobs.{overStages, overJobs, unitsHeld, rowSum, KeepsCapacities, KeepsRows, Exceeded, Broken, exceeded, broken, Active, isActive, jobOf, advancedJob, advanced, unloaded, numbers, Numbered, AtStage, Agreeing, distinct, fits, agreeing}
+use Rattle.model.specs.Jobs.{overStages, overJobs, unitsHeld, rowSum, KeepsCapacities, KeepsRows, Exceeded, Broken, exceeded, broken, Active, isActive}
+use Rattle.model.specs.Jobs.{jobOf, advancedJob, advanced, unloaded, numbers, Numbered, AtStage, Agreeing, distinct, fits, agreeing}
 use Rattle.model.specs.declared.Plan.{Plan}
 use Rattle.model.specs.declared.Job.{Job}
-use Rattle.model.proofs.Decide.{Decides, holding, failing, decides-iff, _and_, decides-then, decides-or, decides-not, decides-le, decides-eq, decides-range, decides-each, decides-lowest, lowest-found}
+use Rattle.model.proofs.Decide.{Decides, holding, failing, decides-iff, _and_, decides-then, decides-or, decides-not}
+use Rattle.model.proofs.Decide.{decides-le, decides-eq, decides-range, decides-each, decides-lowest, lowest-found}
 use Rattle.model.proofs.Lists.{split-at, split-first, split-later, append-each, each-at, each-removed, each-map, each-both}
 use Rattle.model.proofs.Sums.{over-stages-jobs}
 
@@ -68,7 +70,8 @@ pub record Found (p : Plan) (n : ℕ) (js : List Job) (a : Active n js) : Type 0
   pub advance : advanced p n js ≡ a .here .before ++ advancedJob p (a .here .item) ∷ a .here .after
   pub unload : unloaded n js ≡ a .here .before ++ a .here .after
 
-found-at : (p : Plan) (xs : List Job) (j : Job) (ys : List Job) → Distinct (numbers (xs ++ j ∷ ys)) → Found p (j .number) (xs ++ j ∷ ys) (record { here = split-at xs j ys; numbered = refl })
+found-at : (p : Plan) (xs : List Job) (j : Job) (ys : List Job) → Distinct (numbers (xs ++ j ∷ ys))
+    → Found p (j .number) (xs ++ j ∷ ys) (record { here = split-at xs j ys; numbered = refl })
 found-at p [] j ys h =
     record {
       job = rw (eq-eqb (j .number) (j .number) refl) refl;
@@ -156,8 +159,9 @@ module _ (p : Plan) (js : List Job) (staged : Each (AtStage p) js) where
 pub decides-agreeing : (p : Plan) (js : List Job) → Decides (Agreeing p js) (agreeing p js)
 unfolding agreeing
 decides-agreeing p js =
-    decides-iff whole parts
-    (decides-then (decides-then (decides-each (decides-fits p) js and decides-distinct (numbers js)) (λ h. decides-capacities p js (staged (h .0)))) (λ h. decides-rows p js (staged (h .0 .0))))
+    let listed = decides-each (decides-fits p) js and decides-distinct (numbers js) in
+    let below-capacities = decides-then listed (λ h. decides-capacities p js (staged (h .0))) in
+    decides-iff whole parts (decides-then below-capacities (λ h. decides-rows p js (staged (h .0 .0))))
   where
     Fitting : Type 0
     Fitting = Each (λ (j : Job). Numbered j × AtStage p j) js

@@ -1,5 +1,5 @@
--- What holds of each entry of a list, when the list is put together, loses an entry, or has another in its place; a least
--- entry; copies.
+-- What holds of each entry of a list, when the list is put together, loses an entry, or has one replaced; a least entry;
+-- copies.
 use Prim.Native.Nat.{ℕ, zero, suc, _+_, _≤_, _<_}
 use native.Mathlib.Nat.{le-refl}
 use native.Mathlib.Omega.{arith}

@@ -29,6 +29,10 @@ module _ (p : Plan) (xs ys : List Job) (j : Job) (staged : AtStage p j) where
 heldRank : Plan → ℕ → ℕ → ℕ
 heldRank p t k = sumTo (p .resources) (λ (r : ℕ). demandOf p r t k * rankOf p r)
 
+-- a row weighs 1 upstream of its resource and 0 elsewhere
+abbrev WeightCases : Plan → ℕ → ℕ → ℕ → Type 0
+WeightCases p r t k = (UpstreamOf p r t k × (weightOf p r t k ≡ 1)) ⊎ ((¬ UpstreamOf p r t k) × (weightOf p r t k ≡ 0))
+
 module _ (p : Plan) (rule : UpstreamRule p) where
   module _ (t k : ℕ) (stage : IsStage p t k) where
     unit : OneUnit p t k
@@ -73,14 +77,13 @@ module _ (p : Plan) (rule : UpstreamRule p) where
             step (inl here) = subst (λ (m : ℕ). RankedUpTo p r t m) here first
             step (inr later) = u .between i (omega arith) below
 
-    -- a row weighs 1 upstream of its resource and 0 elsewhere
-    weight-cases : (r : ℕ) → InRange r (p .resources) → (UpstreamOf p r t k × (weightOf p r t k ≡ 1)) ⊎ ((¬ UpstreamOf p r t k) × (weightOf p r t k ≡ 0))
+    weight-cases : (r : ℕ) → InRange r (p .resources) → WeightCases p r t k
     weight-cases r range = step (decided (decides-upstream p r t k (stage .1 .0)))
       where
         row : (UpstreamOf p r t k → weightOf p r t k ≡ 1) × ((¬ UpstreamOf p r t k) → weightOf p r t k ≡ 0)
         row = rule .rows r (omega (arith, rule .as-many-rows)) t k stage
 
-        step : UpstreamOf p r t k ⊎ (¬ UpstreamOf p r t k) → (UpstreamOf p r t k × (weightOf p r t k ≡ 1)) ⊎ ((¬ UpstreamOf p r t k) × (weightOf p r t k ≡ 0))
+        step : UpstreamOf p r t k ⊎ (¬ UpstreamOf p r t k) → WeightCases p r t k
         step (inl u) = inl (u, row .0 u)
         step (inr n) = inr (n, row .1 n)
 
@@ -98,7 +101,7 @@ module _ (p : Plan) (rule : UpstreamRule p) where
               between = λ i from below. absurd (omega arith);
             }
 
-        step : (r ≡ unit .resource) ⊎ (r ≢ unit .resource) → (UpstreamOf p r t k × (weightOf p r t k ≡ 1)) ⊎ ((¬ UpstreamOf p r t k) × (weightOf p r t k ≡ 0)) → demandOf p r t k ≤ weightOf p r t k
+        step : (r ≡ unit .resource) ⊎ (r ≢ unit .resource) → WeightCases p r t k → demandOf p r t k ≤ weightOf p r t k
         step (inl same) (inl w) = omega (arith, w .1, unit .one, ap (λ (i : ℕ). demandOf p i t k) same)
         step (inl same) (inr w) = absurd (w .0 (here same))
         step (inr other) w = omega (arith, unit .others r range other)
@@ -113,52 +116,61 @@ module _ (p : Plan) (rule : UpstreamRule p) where
         rule .bounds r row,
         over-stages-jobs p (demandOf p r) js staged,
         over-stages-jobs p (weightOf p r) js staged,
-        over-jobs-mono (demandOf p r) (weightOf p r) js
-            (each-map (AtStage p) (λ (j : Job). demandOf p r (j .kind) (j .stage) ≤ weightOf p r (j .kind) (j .stage)) (λ j h. demand-weight (j .kind) (j .stage) h r range) js staged),
+        over-jobs-mono (demandOf p r) (weightOf p r) js (each-map (AtStage p) Counted counted js staged),
       )
+    where
+      Counted : Job → Type 0
+      Counted j = demandOf p r (j .kind) (j .stage) ≤ weightOf p r (j .kind) (j .stage)
+
+      counted : (j : Job) → AtStage p j → Counted j
+      counted j h = demand-weight (j .kind) (j .stage) h r range
 
   abbrev rankHeldBy : Job → ℕ
   rankHeldBy j = heldRank p (j .kind) (j .stage)
 
   -- the job of lowest rank keeps every row as it advances
-  module _ (xs ys : List Job) (j : Job) (staged : Each (AtStage p) (xs ++ j ∷ ys)) (rows : KeepsRows p (xs ++ j ∷ ys)) (least : Each (λ (i : Job). rankHeldBy j ≤ rankHeldBy i) (xs ++ j ∷ ys)) (next : j .stage < lengthOf p (j .kind)) where
-    here : AtStage p j
-    here = each-at (AtStage p) xs j ys staged
+  module _ (xs ys : List Job) (j : Job) (next : j .stage < lengthOf p (j .kind)) where
+    abbrev jobs : List Job
+    jobs = xs ++ j ∷ ys
 
-    there : AtStage p (advancedJob p j)
-    there = (here .0, omega arith)
+    abbrev AtLeast : Job → Type 0
+    AtLeast i = rankHeldBy j ≤ rankHeldBy i
 
-    -- nobody is counted in the row of a resource below the lowest rank held
-    uncounted : (r : ℕ) → InRange r (p .resources) → rankOf p r < rankHeldBy j → rowSum p r (xs ++ j ∷ ys) ≡ 0
-    uncounted r range low =
-        over-stages-jobs p (weightOf p r) (xs ++ j ∷ ys) staged
-        ∙ over-jobs-zero (weightOf p r) (xs ++ j ∷ ys)
-        (each-map (λ (i : Job). AtStage p i × (rankHeldBy j ≤ rankHeldBy i)) (λ (i : Job). weightOf p r (i .kind) (i .stage) ≡ 0) none (xs ++ j ∷ ys)
-        (each-both (AtStage p) (λ (i : Job). rankHeldBy j ≤ rankHeldBy i) (xs ++ j ∷ ys) staged least))
-      where
-        none : (i : Job) → AtStage p i × (rankHeldBy j ≤ rankHeldBy i) → weightOf p r (i .kind) (i .stage) ≡ 0
-        none i h =
-            ⊎-elim (λ counted. absurd (omega (arith, upstream-rank (i .kind) (i .stage) (h .0) r range (counted .0), h .1))) (λ free. free .1)
-            (weight-cases (i .kind) (i .stage) (h .0) r range)
+    module _ (staged : Each (AtStage p) jobs) (rows : KeepsRows p jobs) (least : Each AtLeast jobs) where
+      here : AtStage p j
+      here = each-at (AtStage p) xs j ys staged
 
-    advance-keeps-rows : KeepsRows p (xs ++ advancedJob p j ∷ ys)
-    advance-keeps-rows r range = step (weight-cases (j .kind) (j .stage) here r range′) (weight-cases (j .kind) (j .stage + 1) there r range′)
-      where
-        range′ : InRange r (p .resources)
-        range′ = omega (arith, rule .as-many-rows)
+      there : AtStage p (advancedJob p j)
+      there = (here .0, omega arith)
 
-        moved : rowSum p r (xs ++ advancedJob p j ∷ ys) + weightOf p r (j .kind) (j .stage) ≡ rowSum p r (xs ++ j ∷ ys) + weightOf p r (j .kind) (j .stage + 1)
-        moved = over-stages-moved p (weightOf p r) xs ys j (advancedJob p j) here there
+      -- nobody is counted in the row of a resource below the lowest rank held
+      uncounted : (r : ℕ) → InRange r (p .resources) → rankOf p r < rankHeldBy j → rowSum p r jobs ≡ 0
+      uncounted r range low =
+          over-stages-jobs p (weightOf p r) jobs staged
+          ∙ over-jobs-zero (weightOf p r) jobs
+          (each-map (λ (i : Job). AtStage p i × AtLeast i) (λ (i : Job). weightOf p r (i .kind) (i .stage) ≡ 0) none jobs
+          (each-both (AtStage p) AtLeast jobs staged least))
+        where
+          none : (i : Job) → AtStage p i × AtLeast i → weightOf p r (i .kind) (i .stage) ≡ 0
+          none i h =
+              ⊎-elim (λ counted. absurd (omega (arith, upstream-rank (i .kind) (i .stage) (h .0) r range (counted .0), h .1))) (λ free. free .1)
+              (weight-cases (i .kind) (i .stage) (h .0) r range)
 
-        Cases : ℕ → Type 0
-        Cases k = (UpstreamOf p r (j .kind) k × (weightOf p r (j .kind) k ≡ 1)) ⊎ ((¬ UpstreamOf p r (j .kind) k) × (weightOf p r (j .kind) k ≡ 0))
+      advance-keeps-rows : KeepsRows p (xs ++ advancedJob p j ∷ ys)
+      advance-keeps-rows r range = step (weight-cases (j .kind) (j .stage) here r range′) (weight-cases (j .kind) (j .stage + 1) there r range′)
+        where
+          range′ : InRange r (p .resources)
+          range′ = omega (arith, rule .as-many-rows)
 
-        step : Cases (j .stage) → Cases (j .stage + 1) → rowSum p r (xs ++ advancedJob p j ∷ ys) ≤ boundOf p r
-        step old (inr new) = omega (arith, moved, rows r range, new .1)
-        step (inl old) (inl new) = omega (arith, moved, rows r range, old .1, new .1)
-        step (inr old) (inl new) =
-            let above : ¬ (rankHeldBy j ≤ rankOf p r) = λ low. old .0 (lengthened (j .kind) (j .stage) here r (new .0) low) in
-            omega (arith, moved, uncounted r range′ (omega arith), old .1, new .1, rule .bounds r range)
+          moved : rowSum p r (xs ++ advancedJob p j ∷ ys) + weightOf p r (j .kind) (j .stage) ≡ rowSum p r jobs + weightOf p r (j .kind) (j .stage + 1)
+          moved = over-stages-moved p (weightOf p r) xs ys j (advancedJob p j) here there
+
+          step : WeightCases p r (j .kind) (j .stage) → WeightCases p r (j .kind) (j .stage + 1) → rowSum p r (xs ++ advancedJob p j ∷ ys) ≤ boundOf p r
+          step old (inr new) = omega (arith, moved, rows r range, new .1)
+          step (inl old) (inl new) = omega (arith, moved, rows r range, old .1, new .1)
+          step (inr old) (inl new) =
+              let above : ¬ (rankHeldBy j ≤ rankOf p r) = λ low. old .0 (lengthened (j .kind) (j .stage) here r (new .0) low) in
+              omega (arith, moved, uncounted r range′ (omega arith), old .1, new .1, rule .bounds r range)
 
   -- a job whose advance, if it has a next stage, keeps every capacity and every row
   pub record FreeJob (js : List Job) : Type 0 where
@@ -187,7 +199,7 @@ module _ (p : Plan) (rule : UpstreamRule p) where
           kept : HasNext p (l .here .item) → KeepsRows p (advancedAt p (l .here))
           kept next =
               let rows′ = subst (KeepsRows p) (l .here .whole) rows in
-              advance-keeps-rows (l .here .before) (l .here .after) (l .here .item) staged′ rows′ least next
+              advance-keeps-rows (l .here .before) (l .here .after) (l .here .item) next staged′ rows′ least
 
           staged-next : HasNext p (l .here .item) → Each (AtStage p) (advancedAt p (l .here))
           staged-next next =

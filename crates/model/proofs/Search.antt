@@ -1,5 +1,5 @@
--- A loop over 1 to n, or over the entries of a list, that leaves at the first number that decides: what is known of those
--- passed, and what the one at which it leaves decides of all.
+-- For loops over 1 to n, or over the entries of a list, that return at the first one that decides: `..-more` keeps the
+-- invariant over those passed, and `..-fails`, `..-holds` and `..-at` give the result at the one where the loop returns.
 use Prim.Native.Nat.{ℕ, zero, suc, _+_, _≤_, _<_}
 use native.Mathlib.Numerals.{add-one}
 use native.Mathlib.Omega.{arith}

@@ -11,10 +11,12 @@ use lib.ListN.{length}
 use Rattle.model.specs.Limits.{maxResources, maxTypes, maxRows, maxStages, maxAllStages, maxUnits, maxBound}
 use Rattle.model.specs.Numbers.{InRange, entry, allTo}
 use Rattle.model.specs.Plan.{noStage, emptyPlan, capacityOf, rankOf, boundOf, lengthOf, IsStage, allStages, stageOf, demandOf, weightOf}
-use Rattle.model.specs.Soundness.{ZeroBeyond, EmptyStage, AllRanked, NoneRanked, SoundStage, Sound, zeroBeyond, emptyStage, soundCounts, soundCapacities, soundRanks, soundLengths, soundBounds, soundStage, sound}
+use Rattle.model.specs.Soundness.{ZeroBeyond, EmptyStage, AllRanked, NoneRanked, SoundStage, Sound, zeroBeyond, emptyStage}
+use Rattle.model.specs.Soundness.{soundCounts, soundCapacities, soundRanks, soundLengths, soundBounds, soundStage, sound}
 use Rattle.model.specs.declared.Stage.{Stage}
 use Rattle.model.specs.declared.Plan.{Plan}
-use Rattle.model.proofs.Decide.{Decides, holds, decides-iff, _and_, decides-or, decides-le, decides-eq, decides-range, decides-all, decides-some, decides-beyond}
+use Rattle.model.proofs.Decide.{Decides, holds, decides-iff, _and_, decides-or, decides-le, decides-eq, decides-range}
+use Rattle.model.proofs.Decide.{decides-all, decides-some, decides-beyond}
 use Rattle.model.proofs.Flat.{all-split, each-beyond, stage-at, stages-flat}
 
 pub decides-zero-beyond : (n : ℕ) (xs : List ℕ) → Decides (ZeroBeyond n xs) (zeroBeyond n xs)
@@ -24,7 +26,8 @@ pub decides-empty-stage : (s : Stage) → Decides (EmptyStage s) (emptyStage s)
 decides-empty-stage s = decides-zero-beyond 0 (s .demand) and decides-zero-beyond 0 (s .weight)
 
 -- over the stages of a plan
-pub decides-stages : (p : Plan) (P : ℕ → ℕ → Type 0) (f : ℕ → ℕ → Bool) → ((t k : ℕ) → IsStage p t k → Decides (P t k) (f t k)) → Decides ((t k : ℕ) → IsStage p t k → P t k) (allTo (p .types) (λ t. allTo (lengthOf p t) (f t)))
+pub decides-stages : (p : Plan) (P : ℕ → ℕ → Type 0) (f : ℕ → ℕ → Bool) → ((t k : ℕ) → IsStage p t k → Decides (P t k) (f t k))
+    → Decides ((t k : ℕ) → IsStage p t k → P t k) (allTo (p .types) (λ t. allTo (lengthOf p t) (f t)))
 decides-stages p P f d =
     decides-iff (λ all t k h. all t (h .0) k (h .1)) (λ all t ht k hk. all t k (ht, hk))
     (decides-all _ _ (p .types) (λ t ht. decides-all (P t) (f t) (lengthOf p t) (λ k hk. d t k (ht, hk))))
@@ -42,30 +45,47 @@ decides-sound-stage p t k =
     and decides-zero-beyond (p .rows) (stageOf p t k .weight))
 
 module _ (p : Plan) where
-  pub counts : Decides ((InRange (p .resources) maxResources × InRange (p .types) maxTypes) × (p .rows ≤ maxRows)) (soundCounts (p .resources) (p .types) (p .rows))
+  -- the parts of soundness, nested as the parts of the test are
+  abbrev Counts : Type 0
+  Counts = (InRange (p .resources) maxResources × InRange (p .types) maxTypes) × (p .rows ≤ maxRows)
+
+  abbrev Capacities : Type 0
+  Capacities = ((r : ℕ) → InRange r (p .resources) → InRange (capacityOf p r) maxUnits) × ZeroBeyond (p .resources) (p .capacity)
+
+  abbrev Ranks : Type 0
+  Ranks = (AllRanked p ⊎ NoneRanked p) × ZeroBeyond (p .resources) (p .rank)
+
+  abbrev Lengths : Type 0
+  Lengths =
+      (((t : ℕ) → InRange t (p .types) → InRange (lengthOf p t) maxStages) × (allStages p ≤ maxAllStages)) × ZeroBeyond (p .types) (p .lengths)
+
+  abbrev Bounds : Type 0
+  Bounds = ((w : ℕ) → InRange w (p .rows) → boundOf p w ≤ maxBound) × ZeroBeyond (p .rows) (p .bound)
+
+  pub counts : Decides Counts (soundCounts (p .resources) (p .types) (p .rows))
   unfolding soundCounts
   counts = decides-range (p .resources) maxResources and decides-range (p .types) maxTypes and decides-le (p .rows) maxRows
 
-  capacities : Decides (((r : ℕ) → InRange r (p .resources) → InRange (capacityOf p r) maxUnits) × ZeroBeyond (p .resources) (p .capacity)) (soundCapacities (p .resources) (p .capacity))
+  capacities : Decides Capacities (soundCapacities (p .resources) (p .capacity))
   unfolding soundCapacities
   capacities =
       decides-all _ _ (p .resources) (λ r h. decides-range (capacityOf p r) maxUnits) and decides-zero-beyond (p .resources) (p .capacity)
 
-  ranks : Decides ((AllRanked p ⊎ NoneRanked p) × ZeroBeyond (p .resources) (p .rank)) (soundRanks (p .resources) (p .rank))
+  ranks : Decides Ranks (soundRanks (p .resources) (p .rank))
   unfolding soundRanks
   ranks =
       decides-or (decides-all _ _ (p .resources) (λ r h. decides-range (rankOf p r) maxUnits))
       (decides-all _ _ (p .resources) (λ r h. decides-eq (rankOf p r) 0))
       and decides-zero-beyond (p .resources) (p .rank)
 
-  lengths : Decides ((((t : ℕ) → InRange t (p .types) → InRange (lengthOf p t) maxStages) × (allStages p ≤ maxAllStages)) × ZeroBeyond (p .types) (p .lengths)) (soundLengths (p .types) (p .lengths))
+  lengths : Decides Lengths (soundLengths (p .types) (p .lengths))
   unfolding soundLengths allStages
   lengths =
       decides-all _ _ (p .types) (λ t h. decides-range (lengthOf p t) maxStages)
       and decides-le (allStages p) maxAllStages
       and decides-zero-beyond (p .types) (p .lengths)
 
-  bounds : Decides (((w : ℕ) → InRange w (p .rows) → boundOf p w ≤ maxBound) × ZeroBeyond (p .rows) (p .bound)) (soundBounds (p .rows) (p .bound))
+  bounds : Decides Bounds (soundBounds (p .rows) (p .bound))
   unfolding soundBounds
   bounds = decides-all _ _ (p .rows) (λ w h. decides-le (boundOf p w) maxBound) and decides-zero-beyond (p .rows) (p .bound)
 
@@ -89,7 +109,13 @@ module _ (p : Plan) where
         no-more-lengths = h .0 .0 .0 .1 .1;
         no-more-stages = h .1;
       })
-      (λ s. (((((((((s .resources, s .types), s .rows), (s .capacities, s .no-more-capacities)), (s .ranks, s .no-more-ranks)), ((s .lengths, s .total), s .no-more-lengths)), (s .bounds, s .no-more-bounds)), s .stages), s .no-more-stages)))
+      (λ s.
+      let of-counts : Counts = ((s .resources, s .types), s .rows) in
+      let of-capacities : Capacities = (s .capacities, s .no-more-capacities) in
+      let of-ranks : Ranks = (s .ranks, s .no-more-ranks) in
+      let of-lengths : Lengths = ((s .lengths, s .total), s .no-more-lengths) in
+      let of-bounds : Bounds = (s .bounds, s .no-more-bounds) in
+      ((((((of-counts, of-capacities), of-ranks), of-lengths), of-bounds), s .stages), s .no-more-stages))
       (counts
       and capacities
       and ranks
@@ -119,7 +145,8 @@ module _ (p : Plan) where
   sound-flat h l =
       let test = soundStage (p .resources) (p .rows) (p .capacity) in
       let small : allStages p ≤ maxAllStages = holds (counts and capacities and ranks and lengths and bounds) h .0 .1 .0 .1 in
-      rw (h, stages-flat p _ (λ i. test (entry (p .stages) i noStage)) (λ t k s. ap test (stage-at p t k s)), each-beyond emptyStage noStage (allStages p) (p .stages))
+      let stages = stages-flat p (λ t k. test (stageOf p t k)) (λ i. test (entry (p .stages) i noStage)) (λ t k s. ap test (stage-at p t k s)) in
+      rw (h, stages, each-beyond emptyStage noStage (allStages p) (p .stages))
       (sym (all-split (allStages p) (length (p .stages)) _ _ (omega arith)))
 
 pub empty-plan-unsound : ¬ Sound emptyPlan

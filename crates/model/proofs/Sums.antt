@@ -113,7 +113,8 @@ module _ (p : Plan) (f : ℕ → ℕ → ℕ) where
   over-stages-removed xs ys j h =
       omega (arith, over-stages-append xs (j ∷ ys), over-stages-append (j ∷ []) ys, over-stages-append xs ys, over-stages-one j h)
 
-  pub over-stages-moved : (xs ys : List Job) (i j : Job) → AtStage p i → AtStage p j → overStages p f (xs ++ j ∷ ys) + f (i .kind) (i .stage) ≡ overStages p f (xs ++ i ∷ ys) + f (j .kind) (j .stage)
+  pub over-stages-moved : (xs ys : List Job) (i j : Job) → AtStage p i → AtStage p j
+      → overStages p f (xs ++ j ∷ ys) + f (i .kind) (i .stage) ≡ overStages p f (xs ++ i ∷ ys) + f (j .kind) (j .stage)
   over-stages-moved xs ys i j h k = omega (arith, over-stages-removed xs ys i h, over-stages-removed xs ys j k)
 
 -- the same of the sum over jobs

@@ -10,10 +10,14 @@ use lib.Dec.{eqb}
 use Rattle.model.specs.Numbers.{InRange, inRange, Lowest}
 use Rattle.model.specs.Questions.{FirstFailure}
 use Rattle.model.specs.Plan.{capacityOf, rankOf, boundOf, lengthOf, demandOf, weightOf}
-use Rattle.model.specs.Upstream.{RankedUpTo, UpstreamOf, OneUnit, OneUnits, UpstreamRow, UpstreamBound, UpstreamRule, checkConditions, rankedUpTo, upstreamOf, oneUnit, faultyStage, faultyType, upstreamRow, faultyRow, faultyBound, checkQuestions, check, isMeets, CheckSays}
+use Rattle.model.specs.Upstream.{RankedUpTo, UpstreamOf, OneUnit, OneUnits, UpstreamRow, UpstreamBound, UpstreamRule}
+use Rattle.model.specs.Upstream.{checkConditions, checkQuestions, check, isMeets, CheckSays}
+use Rattle.model.specs.Upstream.{rankedUpTo, upstreamOf, oneUnit, faultyStage, faultyType, upstreamRow, faultyRow, faultyBound}
 use Rattle.model.specs.declared.Plan.{Plan}
 use Rattle.model.specs.declared.Check.the-variants.{Meets, NotOneUnit, WrongWeight, WrongBound}
-use Rattle.model.proofs.Decide.{Decides, holding, failing, decides-iff, _and_, decides-le, decides-lt, decides-eq, decides-range, decides-all, decides-some, decides-lowest, lowest-found, Answers, AllHold, done, asked, first-failure, accepted, all-hold}
+use Rattle.model.proofs.Decide.{Decides, holding, failing, decides-iff, _and_, decides-le, decides-lt, decides-eq, decides-range}
+use Rattle.model.proofs.Decide.{decides-all, decides-some, decides-lowest, lowest-found}
+use Rattle.model.proofs.Decide.{Answers, AllHold, done, asked, first-failure, accepted, all-hold}
 use Rattle.model.proofs.Sums.{decides-single}
 use Rattle.model.proofs.Soundness.{decides-stages, decides-sound}
 
@@ -35,7 +39,7 @@ decides-unless (holding h) d = holding (λ k. absurd (k h))
 decides-unless (failing h) (holding k) = holding (λ _. k)
 decides-unless (failing h) (failing k) = failing (λ g. k (g h))
 
--- stage 0 is none of the type, yet a stage may stand at its place: the one before the type's first
+-- stage 0 is none of the type, yet a stage may stand at its index: the one before the type's first
 pub decides-upstream : (p : Plan) (resource t k : ℕ) → 1 ≤ k → Decides (UpstreamOf p resource t k) (upstreamOf p resource t k)
 unfolding upstreamOf
 decides-upstream p resource t k first =
@@ -74,13 +78,21 @@ module _ (p : Plan) where
       types : (t : ℕ) → InRange t (p .types) → Decides (OneUnits p t) (eqb (faultyStage p t) 0)
       types t _ = decides-lowest _ _ (lengthOf p t) (stages t)
 
-      faulty-stage : Lowest (p .types) (OneUnits p) (faultyType p) → (t k : ℕ) × CheckSays 22 t k (NotOneUnit (faultyType p) (faultyStage p (faultyType p))) × Lowest (p .types) (OneUnits p) t × Lowest (lengthOf p t) (OneUnit p t) k
-      faulty-stage l = (faultyType p, faultyStage p (faultyType p), refl, l, lowest-found _ _ (lengthOf p (faultyType p)) (stages (faultyType p)) (l .fails))
+      faulty-stage : Lowest (p .types) (OneUnits p) (faultyType p)
+          → (t k : ℕ)
+          × CheckSays 22 t k (NotOneUnit (faultyType p) (faultyStage p (faultyType p)))
+          × Lowest (p .types) (OneUnits p) t
+          × Lowest (lengthOf p t) (OneUnit p t) k
+      faulty-stage l =
+          let t = faultyType p in
+          (t, faultyStage p t, refl, l, lowest-found _ _ (lengthOf p t) (stages t) (l .fails))
 
-      faulty-row : Lowest (p .rows) (UpstreamRow p) (faultyRow p) → (r : ℕ) × CheckSays 24 r 0 (WrongWeight (faultyRow p)) × Lowest (p .rows) (UpstreamRow p) r
+      faulty-row : Lowest (p .rows) (UpstreamRow p) (faultyRow p)
+          → (r : ℕ) × CheckSays 24 r 0 (WrongWeight (faultyRow p)) × Lowest (p .rows) (UpstreamRow p) r
       faulty-row l = (faultyRow p, refl, l)
 
-      faulty-bound : Lowest (p .rows) (UpstreamBound p) (faultyBound p) → (r : ℕ) × CheckSays 25 r 0 (WrongBound (faultyBound p)) × Lowest (p .rows) (UpstreamBound p) r
+      faulty-bound : Lowest (p .rows) (UpstreamBound p) (faultyBound p)
+          → (r : ℕ) × CheckSays 25 r 0 (WrongBound (faultyBound p)) × Lowest (p .rows) (UpstreamBound p) r
       faulty-bound l = (faultyBound p, refl, l)
 
       rows : (r : ℕ) → InRange r (p .rows) → Decides (UpstreamRow p r) (upstreamRow p r)

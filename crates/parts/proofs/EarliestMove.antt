@@ -104,7 +104,8 @@ module _ (p : Plan) (t : JobList) (sound : Sound p) (agrees : Agrees p t) (i : �
     pub has-next : HasNext p job
     has-next = omega (arith, other, job-there-staged .1)
 
-    pub next-moves : (old new : Stage) → old ≡ stageOf p (job .kind) (job .stage) → new ≡ stageOf p (job .kind) (job .stage + 1) → answer p t (moveOf p job) ≡ keptAfter (sumsOf p (jobsOf t)) old new (ceilingsOf p)
+    pub next-moves : (old new : Stage) → old ≡ stageOf p (job .kind) (job .stage) → new ≡ stageOf p (job .kind) (job .stage + 1)
+        → answer p t (moveOf p job) ≡ keptAfter (sumsOf p (jobsOf t)) old new (ceilingsOf p)
     next-moves old new left entered =
         let left′ = left ∙ ap (λ (j : Job). stageOf p (j .kind) (j .stage)) (sym named) in
         let entered′ = entered ∙ ap (λ (j : Job). stageOf p (j .kind) (j .stage + 1)) (sym named) in
@@ -128,11 +129,15 @@ movable-none p t i h = rw (drop-of-length-le (jobsOf t) {i = i} h) refl
 
 -- the earliest admitted move is that of the first job that can go
 module _ (p : Plan) (t : JobList) where
+  abbrev moveAt : List Job → ℕ → Event
+  moveAt js i = moveOf p (getD js i noJob)
+
   pub earliest-none : (js : List Job) → length js ≤ firstMovable p t js → earliest p t js ≡ none
   earliest-none [] h = refl
   earliest-none (j ∷ js) h = go (isAdmitted (answer p t (moveOf p j))) (earliest-none js) h
     where
-      go : (b : Bool) → (length js ≤ firstMovable p t js → earliest p t js ≡ none) → suc (length js) ≤ cond b 0 (suc (firstMovable p t js)) → cond b (some (moveOf p j)) (earliest p t js) ≡ none
+      go : (b : Bool) → (length js ≤ firstMovable p t js → earliest p t js ≡ none)
+          → suc (length js) ≤ cond b 0 (suc (firstMovable p t js)) → cond b (some (moveOf p j)) (earliest p t js) ≡ none
       go true later k = absurd (omega arith)
       go false later k = later (omega arith)
 
@@ -140,7 +145,9 @@ module _ (p : Plan) (t : JobList) where
   earliest-some [] h = absurd (omega arith)
   earliest-some (j ∷ js) h = go (isAdmitted (answer p t (moveOf p j))) (earliest-some js) h
     where
-      go : (b : Bool) → (firstMovable p t js < length js → earliest p t js ≡ some (moveOf p (getD js (firstMovable p t js) noJob))) → cond b 0 (suc (firstMovable p t js)) < suc (length js) → cond b (some (moveOf p j)) (earliest p t js) ≡ some (moveOf p (getD (j ∷ js) (cond b 0 (suc (firstMovable p t js))) noJob))
+      go : (b : Bool) → (firstMovable p t js < length js → earliest p t js ≡ some (moveAt js (firstMovable p t js)))
+          → let i = cond b 0 (suc (firstMovable p t js)) in
+          i < suc (length js) → cond b (some (moveOf p j)) (earliest p t js) ≡ some (moveAt (j ∷ js) i)
       go true later k = refl
       go false later k = later (omega arith)
 
@@ -148,6 +155,9 @@ module _ (p : Plan) (t : JobList) where
   movable-there [] h = absurd (omega arith)
   movable-there (j ∷ js) h = go (isAdmitted (answer p t (moveOf p j))) refl (movable-there js) h
     where
-      go : (b : Bool) → isAdmitted (answer p t (moveOf p j)) ≡ b → (firstMovable p t js < length js → isAdmitted (answer p t (moveOf p (getD js (firstMovable p t js) noJob))) ≡ true) → cond b 0 (suc (firstMovable p t js)) < suc (length js) → isAdmitted (answer p t (moveOf p (getD (j ∷ js) (cond b 0 (suc (firstMovable p t js))) noJob))) ≡ true
+      go : (b : Bool) → isAdmitted (answer p t (moveOf p j)) ≡ b
+          → (firstMovable p t js < length js → isAdmitted (answer p t (moveAt js (firstMovable p t js))) ≡ true)
+          → let i = cond b 0 (suc (firstMovable p t js)) in
+          i < suc (length js) → isAdmitted (answer p t (moveAt (j ∷ js) i)) ≡ true
       go true e later k = e
       go false e later k = later (omega arith)

@@ -42,7 +42,8 @@ module _ (p : Plan) (t : JobList) where
       and decides-beyond decides-no-job noJob refl (t .count) (t .jobs)
       and (decides-each (decides-fits p) (jobsOf t) and decides-distinct (numbers (jobsOf t)))
 
-  agrees-by-parts : length (t .jobs) ≡ maxJobs → agrees p t ≡ (wellFormed (p .types) (p .lengths) t && (eqb (exceeded p (jobsOf t)) 0 && eqb (broken p (jobsOf t)) 0))
+  agrees-by-parts : length (t .jobs) ≡ maxJobs
+      → agrees p t ≡ (wellFormed (p .types) (p .lengths) t && (eqb (exceeded p (jobsOf t)) 0 && eqb (broken p (jobsOf t)) 0))
   unfolding agrees agreeing wellFormed
   agrees-by-parts whole = rw (eq-eqb (length (t .jobs)) maxJobs whole) (simp and-assoc)
 
@@ -79,6 +80,10 @@ module _ (p : Plan) (t : JobList) where
   unfolding agreement
   agreed-unsound h = agreed-refused UnsoundPlan refl (rw h refl)
 
+  -- 18 and 19 of the list as it is, by its sums
+  abbrev keptNow : Answer
+  keptNow = keptAfter (sumsOf p (jobsOf t)) noStage noStage (ceilingsOf p)
+
   module _ (plan : Sound p) where
     disagreeing : agrees p t ≡ false → agreed p t ≡ refusedWith Disagreement
     unfolding agreement
@@ -88,7 +93,7 @@ module _ (p : Plan) (t : JobList) where
       pub agreed-unformed : wellFormed (p .types) (p .lengths) t ≡ false → agreed p t ≡ refusedWith Disagreement
       agreed-unformed h = disagreeing (agrees-by-parts p t whole ∙ rw h refl)
 
-      module _ (formed : wellFormed (p .types) (p .lengths) t ≡ true) (kept : Answer) (says : kept ≡ keptAfter (sumsOf p (jobsOf t)) noStage noStage (ceilingsOf p)) where
+      module _ (formed : wellFormed (p .types) (p .lengths) t ≡ true) (kept : Answer) (says : kept ≡ keptNow) where
         by-sums : agrees p t ≡ isAdmitted kept
         by-sums =
             agrees-by-parts p t whole

@@ -43,8 +43,9 @@ module _ (p : Plan) (t : JobList) (agrees : Agrees p t) where
       let written : set (t .jobs) (t .count) j ≡ js ++ j ∷ empty =
       ap (λ is. set is (t .count) j) slots ∙ set-at js noJob empty j (t .count) (sym count-is)
       in
+      let added : set (t .jobs) (t .count) j ≡ (js ++ j ∷ []) ++ empty = written ∙ sym (append-assoc js (j ∷ []) empty) in
       rw (lt-ltb (t .count) maxJobs room)
-      (list-is (record { count = t .count + 1; jobs = set (t .jobs) (t .count) j }) (js ++ j ∷ []) (omega (arith, count-is)) (written ∙ sym (append-assoc js (j ∷ []) empty)))
+      (list-is (record { count = t .count + 1; jobs = set (t .jobs) (t .count) j }) (js ++ j ∷ []) (omega (arith, count-is)) added)
 
   pub replaced-list : (i : ℕ) (j : Job) → i < t .count → withReplaced t i j ≡ listOf (set (jobsOf t) i j)
   unfolding withReplaced
@@ -75,8 +76,10 @@ module _ (p : Plan) (t : JobList) (agrees : Agrees p t) where
       let filled : replicate (maxJobs - length left) noJob ≡ empty ++ noJob ∷ [] =
       ap (λ n. replicate n noJob) more ∙ sym (replicate-append-replicate (maxJobs - length js) 1 noJob)
       in
+      let slots = take i (t .jobs) ++ drop (i + 1) (t .jobs) ++ noJob ∷ [] in
+      let shifted : slots ≡ left ++ replicate (maxJobs - length left) noJob = rw (front, back, filled) (simp append-assoc) in
       rw (lt-ltb i (t .count) low, le-leb (t .count) maxJobs (agrees .few))
-      (list-is (record { count = t .count - 1; jobs = take i (t .jobs) ++ drop (i + 1) (t .jobs) ++ noJob ∷ [] }) left (omega (arith, count-is)) (rw (front, back, filled) (simp append-assoc)))
+      (list-is (record { count = t .count - 1; jobs = slots }) left (omega (arith, count-is)) shifted)
 
   -- by the number of an active job
   module _ (n : ℕ) (active : isActive n (jobsOf t) ≡ true) where

@@ -10,7 +10,7 @@ use Rattle.model.specs.Limits.{maxNumber, maxJobs}
 use Rattle.model.specs.Numbers.{InRange, inRange}
 use Rattle.model.specs.Plan.{noStage, stageOf}
 use Rattle.model.specs.Jobs.{isActive, loadedJob, loaded, exceeded, broken}
-use Rattle.model.specs.Questions.{ask, answerOf}
+use Rattle.model.specs.Questions.{Question, ask, answerOf}
 use Rattle.model.specs.Soundness.{Sound}
 use Rattle.model.specs.declared.Plan.{Plan}
 use Rattle.model.specs.declared.Stage.{Stage}
@@ -37,14 +37,21 @@ pub record Loads (p : Plan) (t : JobList) (n k : ℕ) : Type 0 where
 own-holds : (types : ℕ) (js : List Job) (n k : ℕ) → isAdmitted (answerOf Admitted (loadQuestions types js n k)) ≡ true → InRange k types × (length js < maxJobs)
 own-holds types js n k h = go (inRange n maxNumber) (not (isActive n js)) (decides-range k types) (decides-lt (length js) maxJobs) h
   where
-    go : (a b : Bool) {c d : Bool} → Decides (InRange k types) c → Decides (length js < maxJobs) d → isAdmitted (cond a (cond b (cond c (cond d Admitted Full) UnknownType) WrongActivity) BadNumber) ≡ true → InRange k types × (length js < maxJobs)
+    go : (a b : Bool) {c d : Bool} → Decides (InRange k types) c → Decides (length js < maxJobs) d
+        → isAdmitted (cond a (cond b (cond c (cond d Admitted Full) UnknownType) WrongActivity) BadNumber) ≡ true → InRange k types × (length js < maxJobs)
     go true true (holding i) (holding l) e = (i, l)
     go true true (holding i) (failing l) e = absurd (false≢true e)
     go true true (failing i) d e = absurd (false≢true e)
     go true false i d e = absurd (false≢true e)
     go false b i d e = absurd (false≢true e)
 
-module _ (p : Plan) (t : JobList) (n k : ℕ) (first a : Answer) (opens : first ≡ agreement p t) (says : a ≡ loadAnswer first (t .count) (positionOf n (jobsOf t)) (p .types) n k) where
+module _ (p : Plan) (t : JobList) (n k : ℕ) where
+  abbrev own : List (Question Answer)
+  own = loadQuestions (p .types) (jobsOf t) n k
+
+  refusing : Refusing own
+  refusing = (refl, (refl, (refl, (refl, tt))))
+
   -- the questions with the number active or not, and so many jobs
   abbrev further : Bool → ℕ → Answer
   further active count =
@@ -55,35 +62,33 @@ module _ (p : Plan) (t : JobList) (n k : ℕ) (first a : Answer) (opens : first 
       ∷ ask (ltb count maxJobs) Full
       ∷ [])
 
-  asked : a ≡ cond (isAdmitted first) (answerOf Admitted (loadQuestions (p .types) (jobsOf t) n k)) first
-  unfolding loadAnswer
-  asked = says ∙ by-position p t n first opens (λ b. further b (t .count)) ∙ by-count p t first opens (further (isActive n (jobsOf t)))
+  module _ (first a : Answer) (opens : first ≡ agreement p t) (says : a ≡ loadAnswer first (t .count) (positionOf n (jobsOf t)) (p .types) n k) where
+    asked : a ≡ cond (isAdmitted first) (answerOf Admitted own) first
+    unfolding loadAnswer
+    asked = says ∙ by-position p t n first opens (λ b. further b (t .count)) ∙ by-count p t first opens (further (isActive n (jobsOf t)))
 
-  refusing : Refusing (loadQuestions (p .types) (jobsOf t) n k)
-  refusing = (refl, (refl, (refl, (refl, tt))))
+    pub load-refused : isAdmitted a ≡ false → record { answer = a; list = t } ≡ listOutcome p t (Load n k)
+    load-refused h =
+        entry-refused p t (Load n k) own (keptQuestions p (loaded n k (jobsOf t))) refl refusing first a opens asked h
 
-  pub load-refused : isAdmitted a ≡ false → record { answer = a; list = t } ≡ listOutcome p t (Load n k)
-  load-refused h =
-      entry-refused p t (Load n k) (loadQuestions (p .types) (jobsOf t) n k) (keptQuestions p (loaded n k (jobsOf t))) refl refusing first a opens asked h
-
-  pub load-goes : isAdmitted a ≡ true → Loads p t n k
-  unfolding keptAnswer
-  load-goes h =
-      let own = loadQuestions (p .types) (jobsOf t) n k in
-      let rest = keptQuestions p (loaded n k (jobsOf t)) in
-      let met = entry-met p t (Load n k) own rest refl refusing first a opens asked h in
-      let both = agreement-holds p t (met .0) in
-      let named = own-holds (p .types) (jobsOf t) n k (met .1) in
-      record {
-        sound = both .0;
-        agrees = both .1;
-        type = named .0;
-        room = omega (arith, named .1, length-take (t .count) (t .jobs), both .1 .slots, both .1 .few);
-        answers = first-met p t (Load n k) (met .0) ∙ met-part own rest refusing (met .1);
-      }
+    pub load-goes : isAdmitted a ≡ true → Loads p t n k
+    unfolding keptAnswer
+    load-goes h =
+        let rest = keptQuestions p (loaded n k (jobsOf t)) in
+        let met = entry-met p t (Load n k) own rest refl refusing first a opens asked h in
+        let both = agreement-holds p t (met .0) in
+        let named = own-holds (p .types) (jobsOf t) n k (met .1) in
+        record {
+          sound = both .0;
+          agrees = both .1;
+          type = named .0;
+          room = omega (arith, named .1, length-take (t .count) (t .jobs), both .1 .slots, both .1 .few);
+          answers = first-met p t (Load n k) (met .0) ∙ met-part own rest refusing (met .1);
+        }
 
 -- 18 and 19 of a load, by the sums with nothing exchanged for its first stage
-pub load-kept : {p : Plan} {t : JobList} {n k : ℕ} → Loads p t n k → (new : Stage) → new ≡ stageOf p k 1 → answer p t (Load n k) ≡ keptAfter (sumsOf p (jobsOf t)) noStage new (ceilingsOf p)
+pub load-kept : {p : Plan} {t : JobList} {n k : ℕ} → Loads p t n k → (new : Stage) → new ≡ stageOf p k 1
+    → answer p t (Load n k) ≡ keptAfter (sumsOf p (jobsOf t)) noStage new (ceilingsOf p)
 load-kept {p} {t} {n} {k} l new stage =
     let js = jobsOf t in
     l .answers ∙ sym (kept-exchanged p (l .sound) js (loaded n k js) noStage new (added-exchanged p js (loadedJob n k) new stage))

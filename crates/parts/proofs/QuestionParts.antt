@@ -32,11 +32,16 @@ use Rattle.events.proofs.Answers.{admitted-or-not}
 abbrev pub Refusing : List (Question Answer) → Type 0
 Refusing qs = Each (λ (q : Question Answer). isAdmitted (q .refusal) ≡ false) qs
 
-in-parts : (qs rs : List (Question Answer)) → Refusing qs → answerOf Admitted (qs ++ rs) ≡ cond (isAdmitted (answerOf Admitted qs)) (answerOf Admitted rs) (answerOf Admitted qs)
+-- the answer of further questions where the first are met
+abbrev continued : Answer → Answer → Answer
+continued first further = cond (isAdmitted first) further first
+
+in-parts : (qs rs : List (Question Answer)) → Refusing qs → answerOf Admitted (qs ++ rs) ≡ continued (answerOf Admitted qs) (answerOf Admitted rs)
 in-parts [] rs h = refl
 in-parts (q ∷ qs) rs h = go (in-parts qs rs (h .1)) (q .met)
   where
-    go : answerOf Admitted (qs ++ rs) ≡ cond (isAdmitted (answerOf Admitted qs)) (answerOf Admitted rs) (answerOf Admitted qs) → (b : Bool) → cond b (answerOf Admitted (qs ++ rs)) (q .refusal) ≡ cond (isAdmitted (cond b (answerOf Admitted qs) (q .refusal))) (answerOf Admitted rs) (cond b (answerOf Admitted qs) (q .refusal))
+    go : answerOf Admitted (qs ++ rs) ≡ continued (answerOf Admitted qs) (answerOf Admitted rs)
+        → (b : Bool) → cond b (answerOf Admitted (qs ++ rs)) (q .refusal) ≡ continued (cond b (answerOf Admitted qs) (q .refusal)) (answerOf Admitted rs)
     go later true = later
     go later false = rw (h .0) refl
 
@@ -59,7 +64,8 @@ module _ (p : Plan) (t : JobList) where
   unfolding agreement
   agreement-holds h = go (decides-sound p) (decides-agrees p t) h
     where
-      go : {a b : Bool} → Decides (Sound p) a → Decides (Agrees p t) b → isAdmitted (cond a (cond b Admitted Disagreement) UnsoundPlan) ≡ true → Sound p × Agrees p t
+      go : {a b : Bool} → Decides (Sound p) a → Decides (Agrees p t) b
+          → isAdmitted (cond a (cond b Admitted Disagreement) UnsoundPlan) ≡ true → Sound p × Agrees p t
       go (holding s) (holding k) e = (s, k)
       go (holding s) (failing k) e = absurd (false≢true e)
       go (failing s) d e = absurd (false≢true e)
@@ -85,7 +91,8 @@ module _ (p : Plan) (t : JobList) where
 
     -- what an entrance hands back is the listOutcome, if its answer is the event's and the table the one that is named
     module _ (a : Answer) (says : answer p t e ≡ a) where
-      pub admitted-outcome : isAdmitted a ≡ true → (next : JobList) → next ≡ listOf (jobsAfter p (jobsOf t) e) → record { answer = a; list = next } ≡ listOutcome p t e
+      pub admitted-outcome : isAdmitted a ≡ true → (next : JobList) → next ≡ listOf (jobsAfter p (jobsOf t) e)
+          → record { answer = a; list = next } ≡ listOutcome p t e
       unfolding listAfter
       admitted-outcome h next leads = λ i. record { answer = sym says i; list = list i }
         where
@@ -100,29 +107,33 @@ module _ (p : Plan) (t : JobList) where
           list = rw (says, h) refl
 
     -- an entrance asks some of the event's own questions where the first two are met
-    module _ (own rest : List (Question Answer)) (whole : ownQuestions p (jobsOf t) e ≡ own ++ rest) (refusing : Refusing own) (first a : Answer) (opens : first ≡ agreement p t) (asked : a ≡ cond (isAdmitted first) (answerOf Admitted own) first) where
-      pub entry-refused : isAdmitted a ≡ false → record { answer = a; list = t } ≡ listOutcome p t e
-      entry-refused h = refused-outcome a (go (isAdmitted first) refl) h
-        where
-          go : (b : Bool) → isAdmitted first ≡ b → answer p t e ≡ a
-          go true e =
-              let turn : a ≡ answerOf Admitted own = asked ∙ rw e refl in
-              first-met (ap isAdmitted (sym opens) ∙ e) ∙ ap (answerOf Admitted) whole ∙ refused-part own rest refusing (ap isAdmitted (sym turn) ∙ h) ∙ sym turn
-          go false e =
-              let turn : a ≡ first = asked ∙ rw e refl in
-              first-refused (ap isAdmitted (sym opens) ∙ e) ∙ sym opens ∙ sym turn
+    module _ (own rest : List (Question Answer)) (whole : ownQuestions p (jobsOf t) e ≡ own ++ rest) (refusing : Refusing own) where
+      own-refused : isAdmitted (agreement p t) ≡ true → isAdmitted (answerOf Admitted own) ≡ false → answer p t e ≡ answerOf Admitted own
+      own-refused met h = first-met met ∙ ap (answerOf Admitted) whole ∙ refused-part own rest refusing h
 
-      -- where they are all met
-      pub entry-met : isAdmitted a ≡ true → (isAdmitted (agreement p t) ≡ true) × (isAdmitted (answerOf Admitted own) ≡ true)
-      entry-met h = go (isAdmitted first) refl
-        where
-          go : (b : Bool) → isAdmitted first ≡ b → (isAdmitted (agreement p t) ≡ true) × (isAdmitted (answerOf Admitted own) ≡ true)
-          go true e =
-              let turn : a ≡ answerOf Admitted own = asked ∙ rw e refl in
-              (ap isAdmitted (sym opens) ∙ e, ap isAdmitted (sym turn) ∙ h)
-          go false e =
-              let turn : a ≡ first = asked ∙ rw e refl in
-              absurd (false≢true (sym e ∙ ap isAdmitted (sym turn) ∙ h))
+      module _ (first a : Answer) (opens : first ≡ agreement p t) (asked : a ≡ cond (isAdmitted first) (answerOf Admitted own) first) where
+        pub entry-refused : isAdmitted a ≡ false → record { answer = a; list = t } ≡ listOutcome p t e
+        entry-refused h = refused-outcome a (go (isAdmitted first) refl) h
+          where
+            go : (b : Bool) → isAdmitted first ≡ b → answer p t e ≡ a
+            go true e =
+                let turn : a ≡ answerOf Admitted own = asked ∙ rw e refl in
+                own-refused (ap isAdmitted (sym opens) ∙ e) (ap isAdmitted (sym turn) ∙ h) ∙ sym turn
+            go false e =
+                let turn : a ≡ first = asked ∙ rw e refl in
+                first-refused (ap isAdmitted (sym opens) ∙ e) ∙ sym opens ∙ sym turn
+
+        -- where they are all met
+        pub entry-met : isAdmitted a ≡ true → (isAdmitted (agreement p t) ≡ true) × (isAdmitted (answerOf Admitted own) ≡ true)
+        entry-met h = go (isAdmitted first) refl
+          where
+            go : (b : Bool) → isAdmitted first ≡ b → (isAdmitted (agreement p t) ≡ true) × (isAdmitted (answerOf Admitted own) ≡ true)
+            go true e =
+                let turn : a ≡ answerOf Admitted own = asked ∙ rw e refl in
+                (ap isAdmitted (sym opens) ∙ e, ap isAdmitted (sym turn) ∙ h)
+            go false e =
+                let turn : a ≡ first = asked ∙ rw e refl in
+                absurd (false≢true (sym e ∙ ap isAdmitted (sym turn) ∙ h))
 
 -- 13 and 14 of a move
 module _ (js : List Job) (n : ℕ) where
@@ -138,7 +149,8 @@ module _ (js : List Job) (n : ℕ) where
       go true false e = absurd (false≢true e)
       go false b e = absurd (false≢true e)
 
-  pub name-met : (rest : List (Question Answer)) → isAdmitted (answerOf Admitted (nameQuestions js n)) ≡ true → answerOf Admitted (nameQuestions js n ++ rest) ≡ answerOf Admitted rest
+  pub name-met : (rest : List (Question Answer)) → isAdmitted (answerOf Admitted (nameQuestions js n)) ≡ true
+      → answerOf Admitted (nameQuestions js n ++ rest) ≡ answerOf Admitted rest
   name-met rest h = met-part (nameQuestions js n) rest name-refuses h
 
 -- what is asked only of an agreeing list may be asked by what the code has at hand
@@ -155,7 +167,8 @@ module _ (p : Plan) (t : JobList) (first : Answer) (opens : first ≡ agreement 
 
 module _ (p : Plan) (t : JobList) (n : ℕ) (first : Answer) (opens : first ≡ agreement p t) where
   -- the number is active where the search for it ended below the count
-  pub by-position : (further : Bool → Answer) → cond (isAdmitted first) (further (ltb (positionOf n (jobsOf t)) (t .count))) first ≡ cond (isAdmitted first) (further (isActive n (jobsOf t))) first
+  pub by-position : (further : Bool → Answer)
+      → cond (isAdmitted first) (further (ltb (positionOf n (jobsOf t)) (t .count))) first ≡ cond (isAdmitted first) (further (isActive n (jobsOf t))) first
   by-position further =
       where-agreeing p t first opens
       (λ agrees. ap further (ap (ltb (positionOf n (jobsOf t))) (count-is p t agrees) ∙ sym (position-active n (jobsOf t))))

@@ -4,14 +4,16 @@ use Prim.Native.Nat.{ℕ, zero, suc, _+_, _-_, _≤_, _<_}
 use native.Mathlib.Omega.{arith}
 use mathlib.Core.Bool.{Bool, cond, _&&_}
 use mathlib.Core.List.{List}
-use mathlib.Core.Path.{_≡_, refl, sym, _∙_}
+use mathlib.Core.Path.{_≡_, refl, sym, ap, _∙_}
 use lib.ListN.{length, getD, List·getD-eq-default}
 use Rattle.model.specs.Limits.{maxAllStages}
 use Rattle.model.specs.Numbers.{InRange, inRange, entry, at, sumTo}
 use Rattle.model.specs.Plan.{noStage, lengthOf, IsStage, isStage, stageOf}
+use Rattle.model.specs.Jobs.{HasNext, advancedJob, AtStage}
 use Rattle.model.specs.Soundness.{Sound}
 use Rattle.model.specs.declared.Plan.{Plan}
 use Rattle.model.specs.declared.Stage.{Stage}
+use Rattle.model.specs.declared.Job.{Job}
 use Rattle.model.proofs.Decide.{Decides, holding, failing, fails, passes, decides-range, _and_}
 use Rattle.model.proofs.Flat as flat
 use Rattle.model.proofs.Flat.{flatIndex}
@@ -82,3 +84,28 @@ module _ (p : Plan) (sound : Sound p) (t k : ℕ) (stage : IsStage p t k) where
 
   pub stage-read : (d : Stage) → length (p .stages) ≡ maxAllStages → getD (p .stages) (stageIndex (p .lengths) t k) d ≡ stageOf p t k
   stage-read = flat.stage-there p sound t k stage (stageIndex (p .lengths) t k) counted
+
+-- the stage of a job and the next one, where the code reads them
+module _ (p : Plan) (sound : Sound p) (j : Job) (staged : AtStage p j) (more : HasNext p j) where
+  abbrev Index : ℕ → Type 0
+  Index i = i ≡ stageIndex (p .lengths) (j .kind) (j .stage)
+
+  next-staged : AtStage p (advancedJob p j)
+  next-staged = (staged .0, omega arith)
+
+  to-index : (i : ℕ) → Index i → i + 1 ≡ stageIndex (p .lengths) (j .kind) (j .stage + 1)
+  to-index i here = ap (λ n. n + 1) here ∙ index-next (p .lengths) (j .kind) (j .stage) (staged .1 .0)
+
+  module _ (i : ℕ) (here : Index i) where
+    pub from-within : i < maxAllStages
+    from-within = rw here (index-within p sound (j .kind) (j .stage) staged)
+
+    pub to-within : i + 1 < maxAllStages
+    to-within = rw (to-index i here) (index-within p sound (j .kind) (j .stage + 1) next-staged)
+
+    module _ (d : Stage) (slots : length (p .stages) ≡ maxAllStages) where
+      pub old-read : getD (p .stages) i d ≡ stageOf p (j .kind) (j .stage)
+      old-read = ap (λ n. getD (p .stages) n d) here ∙ stage-read p sound (j .kind) (j .stage) staged d slots
+
+      pub new-read : getD (p .stages) (i + 1) d ≡ stageOf p (j .kind) (j .stage + 1)
+      new-read = ap (λ n. getD (p .stages) n d) (to-index i here) ∙ stage-read p sound (j .kind) (j .stage + 1) next-staged d slots

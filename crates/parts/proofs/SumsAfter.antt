@@ -60,20 +60,23 @@ module _ (p : Plan) (js : List Job) where
           rows = λ w. added (weightOf p w) w _ (ap (λ (s : Stage). at (s .weight) w) stage);
         }
 
-  module _ (s : Split js) (old new : Stage) (left : old ≡ stageOf p (s .item .kind) (s .item .stage)) (entered : new ≡ stageOf p (s .item .kind) (s .item .stage + 1)) where
-    moved : (f : ℕ → ℕ → ℕ) (m n : ℕ) → m ≡ f (s .item .kind) (s .item .stage) → n ≡ f (s .item .kind) (s .item .stage + 1) → Exchanged f js (advancedAt p s) m n
+  module _ (s : Split js) where
+    moved : (f : ℕ → ℕ → ℕ) (m n : ℕ) → m ≡ f (s .item .kind) (s .item .stage) → n ≡ f (s .item .kind) (s .item .stage + 1)
+        → Exchanged f js (advancedAt p s) m n
     moved f m n e g =
         let whole = ap (overJobs f) (s .whole) in
-        rw (e, g)
-        (omega (arith, over-jobs-moved f (s .before) (s .after) (s .item) (advancedJob p (s .item)), whole), omega (arith, over-jobs-removed f (s .before) (s .after) (s .item), whole))
+        let replaced = over-jobs-moved f (s .before) (s .after) (s .item) (advancedJob p (s .item)) in
+        let removed = over-jobs-removed f (s .before) (s .after) (s .item) in
+        rw (e, g) (omega (arith, replaced, whole), omega (arith, removed, whole))
 
-    pub moved-exchanged : Exchange p js (advancedAt p s) old new
-    unfolding demandOf weightOf
-    moved-exchanged =
-        record {
-          units = λ r. moved (demandOf p r) _ _ (ap (λ (s : Stage). at (s .demand) r) left) (ap (λ (s : Stage). at (s .demand) r) entered);
-          rows = λ w. moved (weightOf p w) _ _ (ap (λ (s : Stage). at (s .weight) w) left) (ap (λ (s : Stage). at (s .weight) w) entered);
-        }
+    module _ (old new : Stage) (left : old ≡ stageOf p (s .item .kind) (s .item .stage)) (entered : new ≡ stageOf p (s .item .kind) (s .item .stage + 1)) where
+      pub moved-exchanged : Exchange p js (advancedAt p s) old new
+      unfolding demandOf weightOf
+      moved-exchanged =
+          record {
+            units = λ r. moved (demandOf p r) _ _ (ap (λ (s : Stage). at (s .demand) r) left) (ap (λ (s : Stage). at (s .demand) r) entered);
+            rows = λ w. moved (weightOf p w) _ _ (ap (λ (s : Stage). at (s .weight) w) left) (ap (λ (s : Stage). at (s .weight) w) entered);
+          }
 
 module _ (p : Plan) (sound : Sound p) where
   stage-cases : (t k : ℕ) → IsStage p t k ⊎ (stageOf p t k ≡ noStage)
@@ -96,14 +99,17 @@ module _ (p : Plan) (sound : Sound p) where
 
   module _ (js next : List Job) where
     -- the lowest of m entries that is above its ceiling is the lowest within the count n
-    lanes-after : (m n : ℕ) (f : ℕ → ℕ → ℕ → ℕ) (old new ceilings : List ℕ) → n ≤ m → ((i : ℕ) → Exchanged (f i) js next (at old i) (at new i)) → ((i : ℕ) → n < i → (t k : ℕ) → f i t k ≡ 0) → lowestAfter m (tabulate m (λ i. overJobs (f i) js)) old new ceilings ≡ lowest n (λ i. leb (overJobs (f i) next) (at ceilings i))
+    lanes-after : (m n : ℕ) (f : ℕ → ℕ → ℕ → ℕ) (old new ceilings : List ℕ) → n ≤ m
+        → ((i : ℕ) → Exchanged (f i) js next (at old i) (at new i)) → ((i : ℕ) → n < i → (t k : ℕ) → f i t k ≡ 0)
+        → lowestAfter m (tabulate m (λ i. overJobs (f i) js)) old new ceilings ≡ lowest n (λ i. leb (overJobs (f i) next) (at ceilings i))
     unfolding lowestAfter
     lanes-after m n f old new ceilings low exchanged beyond = lowest-lanes m n _ _ low (λ i h. same i (omega arith)) high
       where
         sum : (i : ℕ) → InRange i m → at (tabulate m (λ i. overJobs (f i) js)) i - at old i + at new i ≡ overJobs (f i) next
         sum i h = omega (arith, at-tabulate (λ i. overJobs (f i) js) m i h, exchanged i)
 
-        same : (i : ℕ) → InRange i m → leb (at (tabulate m (λ i. overJobs (f i) js)) i - at old i + at new i) (at ceilings i) ≡ leb (overJobs (f i) next) (at ceilings i)
+        same : (i : ℕ) → InRange i m
+            → leb (at (tabulate m (λ i. overJobs (f i) js)) i - at old i + at new i) (at ceilings i) ≡ leb (overJobs (f i) next) (at ceilings i)
         same i h = ap (λ (n : ℕ). leb n (at ceilings i)) (sum i h)
 
         high : (i : ℕ) → n < i → i ≤ m → leb (at (tabulate m (λ i. overJobs (f i) js)) i - at old i + at new i) (at ceilings i) ≡ true
@@ -111,7 +117,8 @@ module _ (p : Plan) (sound : Sound p) where
             let none = over-jobs-zero (f i) next (every-each _ (λ (j : Job). beyond i above (j .kind) (j .stage)) next) in
             same i (omega arith) ∙ le-leb (overJobs (f i) next) (at ceilings i) (omega (arith, none))
 
-    pub kept-exchanged : (old new : Stage) → Exchange p js next old new → keptAfter (sumsOf p js) old new (ceilingsOf p) ≡ keptAnswer (exceeded p next) (broken p next)
+    pub kept-exchanged : (old new : Stage) → Exchange p js next old new
+        → keptAfter (sumsOf p js) old new (ceilingsOf p) ≡ keptAnswer (exceeded p next) (broken p next)
     unfolding keptAfter sumsOf exceeded broken
     kept-exchanged old new e =
         ap₂ keptAnswer

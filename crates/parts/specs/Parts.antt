@@ -4,22 +4,23 @@ use Prim.Native.Nat.{ℕ, zero, suc, _+_, _-_, _≤_}
 use mathlib.Core.Bool.{Bool, cond, not, _&&_}
 use mathlib.Core.List.{List, [], _∷_, _++_}
 use mathlib.Core.Path.{_≡_}
-use lib.ListN.{length, take, drop, set, replicate}
+use lib.ListN.{length, take, drop, getD, set, replicate}
 use lib.Dec.{leb, ltb}
 use Rattle.model.specs.Limits.{maxResources, maxRows, maxAllStages, maxNumber, maxJobs}
 use Rattle.model.specs.Numbers.{InRange, inRange, at, sumTo, lowest, each}
 use Rattle.model.specs.Questions.{ask, answerOf}
 use Rattle.model.specs.Plan.{demandOf, weightOf}
-use Rattle.model.specs.Jobs.{noJob, overJobs, hasNumber, jobOf, numbers, distinct, fits}
+use Rattle.model.specs.Jobs.{noJob, overJobs, hasNumber, jobOf, hasNext, isLast, numbers, distinct, fits}
 use Rattle.model.specs.declared.Plan.{Plan}
 use Rattle.model.specs.declared.Stage.{Stage}
 use Rattle.model.specs.declared.Job.{Job}
-use Rattle.events.specs.JobList.{jobsOf, isNoJob}
-use Rattle.events.specs.Events.{agreement, answer, isAdmitted, keptAnswer}
+use Rattle.events.specs.JobList.{jobsOf, listOf, isNoJob}
+use Rattle.events.specs.Events.{agreement, answer, isAdmitted, keptAnswer, jobsAfter}
 use Rattle.events.specs.Drain.{moveOf}
 use Rattle.events.specs.declared.JobList.{JobList}
+use Rattle.events.specs.declared.ListOutcome.{ListOutcome}
 use Rattle.events.specs.declared.Answer.{Answer}
-use Rattle.events.specs.declared.Answer.the-variants.{Admitted, BadNumber, WrongActivity, UnknownType, Full}
+use Rattle.events.specs.declared.Answer.the-variants.{Admitted, BadNumber, WrongActivity, UnknownType, Full, WrongStage}
 use Rattle.parts.specs.declared.Sums.{Sums}
 use Rattle.parts.specs.declared.Ceilings.{Ceilings}
 use Rattle.parts.specs.declared.Found.{Found}
@@ -85,12 +86,20 @@ positionOf n (j ∷ js) = cond (hasNumber n j) 0 (suc (positionOf n js))
 abbrev pub foundIn : ℕ → List Job → Found
 foundIn n js = record { at = positionOf n js; job = jobOf n js }
 
--- questions 13 and 14 of a move, and 13 to 16 of a load, by the count of jobs and the position that the search for the
+-- what a refused event hands back
+abbrev pub refusal : Answer → JobList → ListOutcome
+refusal a t = record { answer = a; list = t }
+
+-- question 17: an unload asks for the last stage, an advance for a next one
+abbrev pub stageMet : Plan → Bool → Job → Bool
+stageMet p unloads j = cond unloads (isLast p j) (hasNext p j)
+
+-- questions 13, 14 and 17 of a move, and 13 to 16 of a load, by the count of jobs and the position that the search for the
 -- number found; asked where those before were answered 0
-unfoldable pub nameAnswer : Answer → ℕ → ℕ → ℕ → Answer
-nameAnswer first count position n =
+unfoldable pub moveAnswer : Answer → ℕ → ℕ → ℕ → Bool → Answer
+moveAnswer first count position n met =
     cond (isAdmitted first)
-    (answerOf Admitted (ask (inRange n maxNumber) BadNumber ∷ ask (ltb position count) WrongActivity ∷ []))
+    (answerOf Admitted (ask (inRange n maxNumber) BadNumber ∷ ask (ltb position count) WrongActivity ∷ ask met WrongStage ∷ []))
     first
 
 unfoldable pub loadAnswer : Answer → ℕ → ℕ → ℕ → ℕ → ℕ → Answer
@@ -142,3 +151,7 @@ firstMovable p t (j ∷ js) = cond (isAdmitted (answer p t (moveOf p j))) 0 (suc
 
 abbrev pub earliestPosition : Plan → JobList → ℕ
 earliestPosition p t = firstMovable p t (jobsOf t)
+
+-- the list after the move of the job at this position, where the move is admitted
+abbrev pub movedAt : Plan → JobList → ℕ → JobList
+movedAt p t i = listOf (jobsAfter p (jobsOf t) (moveOf p (getD (t .jobs) i noJob)))

@@ -39,11 +39,13 @@ after-nothing m p t = same-admitted (after m (ran p t [])) m (omega arith)
 pub run-parts : (p : Plan) (t : Table) (es fs : List Event) → ran p t (es ++ fs) ≡ after (ran p t es .admitted) (ran p (ran p t es .table) fs)
 run-parts p t [] fs = after-none (ran p t fs)
 run-parts p t (e ∷ es) fs =
-    ap (after (cond (isAdmitted (answer p (t .list) e)) 1 0)) (run-parts p (tableOf (listAfter p (t .list) e)) es fs)
-    ∙ after-after (cond (isAdmitted (answer p (t .list) e)) 1 0) (ran p (tableOf (listAfter p (t .list) e)) es .admitted) (ran p (ran p (tableOf (listAfter p (t .list) e)) es .table) fs)
+    let one : ℕ = cond (isAdmitted (answer p (t .list) e)) 1 0 in
+    let next = tableOf (listAfter p (t .list) e) in
+    ap (after one) (run-parts p next es fs) ∙ after-after one (ran p next es .admitted) (ran p (ran p next es .table) fs)
 
 -- one event
-pub run-one : (p : Plan) (t : Table) (e : Event) (o : Outcome) (r : Ran) → o ≡ outcome p t e → (r .table ≡ o .table) × (r .admitted ≡ cond (isAdmitted (o .answer)) 1 0) → r ≡ ran p t (e ∷ [])
+pub run-one : (p : Plan) (t : Table) (e : Event) (o : Outcome) (r : Ran) → o ≡ outcome p t e
+    → (r .table ≡ o .table) × (r .admitted ≡ cond (isAdmitted (o .answer)) 1 0) → r ≡ ran p t (e ∷ [])
 run-one p t e o r h made = λ i. record { table = (made .0 ∙ ap (λ (o : Outcome). o .table) h) i; admitted = count i }
   where
     count : r .admitted ≡ cond (isAdmitted (answer p (t .list) e)) 1 0 + 0
@@ -63,26 +65,34 @@ admitted-one p t l n k = go (eqb l 76) (eqb l 65) (eqb l 85)
     go false false true = counts (isAdmitted (answer p (t .list) (Unload n)))
     go false false false = omega arith
 
--- the events from one place on
-module _ (letters jobs kinds : List ℕ) (i : ℕ) where
-  events-here : i < length letters → i < length jobs → i < length kinds → eventsOf (drop i letters) (drop i jobs) (drop i kinds) ≡ eventOf (getD letters i 0) (getD jobs i 0) (getD kinds i 0) ++ eventsOf (drop (i + 1) letters) (drop (i + 1) jobs) (drop (i + 1) kinds)
-  events-here a b c = rw (add-one, drop-cons letters i 0, drop-cons jobs i 0, drop-cons kinds i 0) refl
+-- the event at one place, and all from there on
+module _ (letters jobs kinds : List ℕ) where
+  abbrev pub eventAt : ℕ → List Event
+  eventAt i = eventOf (getD letters i 0) (getD jobs i 0) (getD kinds i 0)
 
-  -- the event at this place is run
-  pub run-step : (p : Plan) (t : Table) (m : ℕ) (r : Ran) → i < length letters → i < length jobs → i < length kinds → r ≡ ran p t (eventOf (getD letters i 0) (getD jobs i 0) (getD kinds i 0)) → after m (ran p t (eventsOf (drop i letters) (drop i jobs) (drop i kinds))) ≡ after (m + r .admitted) (ran p (r .table) (eventsOf (drop (i + 1) letters) (drop (i + 1) jobs) (drop (i + 1) kinds)))
-  run-step p t m r a b c made =
-      let here = eventOf (getD letters i 0) (getD jobs i 0) (getD kinds i 0) in
-      let rest = eventsOf (drop (i + 1) letters) (drop (i + 1) jobs) (drop (i + 1) kinds) in
-      ap (λ es. after m (ran p t es)) (events-here a b c)
-      ∙ ap (after m) (run-parts p t here rest)
-      ∙ after-after m (ran p t here .admitted) (ran p (ran p t here .table) rest)
-      ∙ ap (λ (r : Ran). after (m + r .admitted) (ran p (r .table) rest)) (sym made)
+  abbrev pub eventsFrom : ℕ → List Event
+  eventsFrom i = eventsOf (drop i letters) (drop i jobs) (drop i kinds)
 
-  pub letters-end : length letters ≤ i → eventsOf (drop i letters) (drop i jobs) (drop i kinds) ≡ []
-  letters-end h = rw (drop-of-length-le letters {i = i} h) refl
+  module _ (i : ℕ) where
+    events-here : i < length letters → i < length jobs → i < length kinds → eventsFrom i ≡ eventAt i ++ eventsFrom (i + 1)
+    events-here a b c = rw (add-one, drop-cons letters i 0, drop-cons jobs i 0, drop-cons kinds i 0) refl
 
-  pub jobs-end : i < length letters → length jobs ≤ i → eventsOf (drop i letters) (drop i jobs) (drop i kinds) ≡ []
-  jobs-end a h = rw (drop-cons letters i 0, drop-of-length-le jobs {i = i} h) refl
+    -- the event at this place is run
+    pub run-step : (p : Plan) (t : Table) (m : ℕ) (r : Ran) → i < length letters → i < length jobs → i < length kinds
+        → r ≡ ran p t (eventAt i) → after m (ran p t (eventsFrom i)) ≡ after (m + r .admitted) (ran p (r .table) (eventsFrom (i + 1)))
+    run-step p t m r a b c made =
+        let here = eventAt i in
+        let rest = eventsFrom (i + 1) in
+        ap (λ es. after m (ran p t es)) (events-here a b c)
+        ∙ ap (after m) (run-parts p t here rest)
+        ∙ after-after m (ran p t here .admitted) (ran p (ran p t here .table) rest)
+        ∙ ap (λ (r : Ran). after (m + r .admitted) (ran p (r .table) rest)) (sym made)
 
-  pub kinds-end : i < length letters → i < length jobs → length kinds ≤ i → eventsOf (drop i letters) (drop i jobs) (drop i kinds) ≡ []
-  kinds-end a b h = rw (drop-cons letters i 0, drop-cons jobs i 0, drop-of-length-le kinds {i = i} h) refl
+    pub letters-end : length letters ≤ i → eventsFrom i ≡ []
+    letters-end h = rw (drop-of-length-le letters {i = i} h) refl
+
+    pub jobs-end : i < length letters → length jobs ≤ i → eventsFrom i ≡ []
+    jobs-end a h = rw (drop-cons letters i 0, drop-of-length-le jobs {i = i} h) refl
+
+    pub kinds-end : i < length letters → i < length jobs → length kinds ≤ i → eventsFrom i ≡ []
+    kinds-end a b h = rw (drop-cons letters i 0, drop-cons jobs i 0, drop-of-length-le kinds {i = i} h) refl

@@ -2,8 +2,8 @@
 ghost use mathlib.Core.Bool.{true, cond, _&&_};
 ghost use mathlib.Core.Path.{_≡_};
 ghost use Prim.Native.Nat.{ℕ, _≤_};
-ghost use lib.Dec.{leb, eqb};
-ghost use Rattle.model.specs.Numbers.{at, inRange, allTo, someTo, sumTo};
+ghost use lib.Dec.{leb};
+ghost use Rattle.model.specs.Numbers.{at, inRange, allTo, sumTo};
 ghost use Rattle.model.specs.Soundness.{zeroBeyond, emptyStage, soundCounts, soundCapacities, soundRanks, soundLengths, soundBounds};
 ghost use Rattle.model.specs.Soundness.{soundStage, sound};
 use model::Plan;

@@ -1,3 +1,4 @@
 -- The laws behind the code of the upstream check.
 pub mod Stages
+pub mod RowSearch
 pub mod RowWalk

@@ -1,11 +1,11 @@
 -- The laws behind questions 21 and 22: a sound plan ranks every resource or none, and the first entry that does not demand one
 -- unit is the lowest faulty stage, or the end of the stages.
 use Prim.Native.Nat.{ℕ, suc, _+_, _-_, _≤_, _<_}
-use native.Mathlib.Numerals.{sub-one, add-one}
+use native.Mathlib.Numerals.{add-one}
 use native.Mathlib.Omega.{arith}
 use mathlib.Core.Bool.{Bool, true, false, false≢true, true≢false}
 use mathlib.Core.Logic.{⊎-elim}
-use mathlib.Core.Path.{_≡_, refl, sym, ap, _∙_}
+use mathlib.Core.Path.{_≡_, refl, sym, _∙_}
 use lib.Dec.{leb, eqb}
 use borrow.Author.Tests.{eqb-true, eq-eqb, ne-eqb, le-leb, lt-leb}
 use Rattle.model.specs.Limits.{maxAllStages}
@@ -97,12 +97,14 @@ module _ (p : Plan) (sound : Sound p) where
             lowest-none (p .types) _ (λ t h. eq-eqb _ 0 (type-passed t h (λ k g. omega (arith, whole, index-of-stage p t k (h, g)))))
 
         pub at-end : index ≡ allStages p
-        at-end = ⊎-elim (λ (l : a .stage ≤ 0). omega (arith, whole)) (λ (l : ¬ (a .stage ≤ 0)). absurd (beyond (omega arith))) (decided (decides-le (a .stage) 0))
+        at-end =
+            ⊎-elim (λ (l : a .stage ≤ 0). omega (arith, whole)) (λ (l : ¬ (a .stage ≤ 0)). absurd (beyond (omega arith)))
+            (decided (decides-le (a .stage) 0))
           where
             empty : sumTo (p .resources) (at (entry (p .stages) (suc (allStages p)) noStage .demand)) ≡ 0
             empty = sum-zero _ (p .resources) (λ i h. sound .no-more-stages (suc (allStages p)) (omega arith) .0 i (h .0))
 
             beyond : 1 ≤ a .stage → ⊥
             beyond h =
-                let unit : unitEntry p (suc (allStages p)) ≡ true = all-at index (unitEntry p) (first .before) (suc (allStages p)) (omega arith, omega (arith, whole)) in
+                let unit = all-at index (unitEntry p) (first .before) (suc (allStages p)) (omega arith, omega (arith, whole)) in
                 true≢false (sym unit ∙ rw empty refl)

@@ -24,13 +24,13 @@ fn check_rows(p: Plan, end: usize) -> Check
     requires { ⌜ Sound p × (end ≡ allStages p) ⌝ }
     ensures { λ r. ⌜ r ≡ answerOf Meets (drop 4 (checkQuestions p)) ⌝ }
 {
-    let weighted_wrong = faulty_row(p, end);
-    let bounded_wrong = faulty_bound(&p.bound, &p.capacity, u8_to_usize(p.rows));
-    if weighted_wrong != 0 {
-        return Check::WrongWeight(weighted_wrong);
+    let weight_fault = faulty_row(p, end);
+    let bound_fault = faulty_bound(&p.bound, &p.capacity, u8_to_usize(p.rows));
+    if weight_fault != 0 {
+        return Check::WrongWeight(weight_fault);
     }
-    if bounded_wrong != 0 {
-        return Check::WrongBound(bounded_wrong);
+    if bound_fault != 0 {
+        return Check::WrongBound(bound_fault);
     }
     Check::Meets
 }

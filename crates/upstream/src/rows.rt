@@ -19,8 +19,10 @@ fn ranked_up_to(demand: &[u8; 32], rank: &[u8; 32], n: usize, target: usize) -> 
     let limit = rank[target];
     let mut i = 0;
     while i < n {
-        if 1 <= demand[i] && rank[i] <= limit {
-            return true;
+        if 1 <= demand[i] {
+            if rank[i] <= limit {
+                return true;
+            }
         }
         i += 1;
     }
@@ -41,6 +43,14 @@ fn due_weight(s: Stage, rank: &[u8; 32], n: usize, target: usize, later: u8) -> 
     } else {
         0
     }
+}
+
+// The number of the row at which a search of n rows was left; 0 where it was not.
+fn fault_number(row: usize, n: usize) -> u32
+    requires { ⌜ n ≤ 32 ⌝ }
+    ensures { λ r. ⌜ (row < n → r ≡ row + 1) × (n ≤ row → r ≡ 0) ⌝ }
+{
+    if row < n { (row + 1) as u32 } else { 0 }
 }
 
 // The lowest row that is not weighted 1 at every stage upstream of its resource and 0 elsewhere; 0 for none. The stages are
@@ -69,13 +79,19 @@ pub(crate) fn faulty_row(p: Plan, end: usize) -> u32
         }
         row += 1;
     }
-    if row < rows { (row + 1) as u32 } else { 0 }
+    fault_number(row, rows)
 }
 
-fn u16_to_usize(x: u16) -> usize
+fn u8_to_u16(x: u8) -> u16
     ensures { λ r. ⌜ r ≡ x ⌝ }
 {
-    x as usize
+    x as u16
+}
+
+fn right_bound(bound: u16, capacity: u8) -> bool
+    ensures { λ r. ⌜ r ≡ inRange bound capacity ⌝ }
+{
+    1 <= bound && bound <= u8_to_u16(capacity)
 }
 
 // The lowest row whose bound is not between 1 and the capacity of its resource; 0 for none.
@@ -85,11 +101,10 @@ pub(crate) fn faulty_bound<'a>(bound: &'a [u16; 32], capacity: &'a [u8; 32], n: 
 {
     let mut i = 0;
     while i < n {
-        let b = u16_to_usize(bound[i]);
-        if b < 1 || u8_to_usize(capacity[i]) < b {
-            return (i + 1) as u32;
+        if !right_bound(bound[i], capacity[i]) {
+            break;
         }
         i += 1;
     }
-    0
+    fault_number(i, n)
 }

@@ -2,7 +2,6 @@
 ghost use mathlib.Core.Path.{_≡_};
 ghost use Prim.Native.Nat.{_≤_};
 ghost use lib.Dec.{eqb};
-ghost use Rattle.model.specs.Limits.{maxAllStages};
 ghost use Rattle.model.specs.Numbers.{at, sumTo};
 ghost use Rattle.upstream.specs.Parts.{FirstOther};
 use crate::position::u8_to_usize;

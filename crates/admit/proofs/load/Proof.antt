@@ -1,11 +1,11 @@
 -- The questions are asked in parts; the last two test the sums with nothing exchanged for the first stage.
-use Prim.Native.Nat.{_<_}
+use Prim.Native.Nat.{ℕ, _<_}
 use native.Mathlib.Omega.{arith}
-use mathlib.Core.Path.{_≡_, refl, sym, ap, _∙_}
+use mathlib.Core.Path.{_≡_, sym, ap, _∙_}
 use lib.ListN.{getD}
 use borrow.Author.Needs.{needs}
 use Rattle.model.specs.Limits.{maxAllStages}
-use Rattle.model.specs.Plan.{noStage, IsStage, stageOf}
+use Rattle.model.specs.Plan.{IsStage, stageOf}
 use Rattle.model.specs.Jobs.{loadedJob}
 use Rattle.model.specs.declared.Plan.{Plan}
 use Rattle.model.specs.declared.Stage.{Stage}
@@ -13,6 +13,7 @@ use Rattle.model.proofs.Arrays.{plan-stages}
 use Rattle.events.specs.JobList.{jobsOf}
 use Rattle.events.specs.Events.{isAdmitted, answer}
 use Rattle.events.specs.declared.JobList.{JobList}
+use Rattle.events.specs.declared.Answer.{Answer}
 use Rattle.events.specs.declared.Event.{Event}
 use Rattle.events.specs.declared.Event.the-variants.{Load}
 use Rattle.events.proofs.Tags.{refused-tag}
@@ -42,15 +43,20 @@ module _ (c : tie.After-load-answer) where
   abbrev start : tie.Start
   start = c .before .before .before
 
-  first-says : c .load-answer .result ≡ loadAnswer (agreed (plan start) (list start) .answer) (list start .count) (positionOf (start .args .job) (jobsOf (list start))) (plan start .types) (start .args .job) (start .args .kind)
+  abbrev asked : Answer → ℕ → Answer
+  asked first position = loadAnswer first (list start .count) position (plan start .types) (start .args .job) (start .args .kind)
+
+  first-says : c .load-answer .result ≡ asked (agreed (plan start) (list start) .answer) (positionOf (start .args .job) (jobsOf (list start)))
   first-says =
       let agrees = c .before .before .agree .ensures in
       let found = c .before .look-up .ensures in
-      c .load-answer .ensures
-      ∙ (λ i. loadAnswer (agrees i .answer) (list start .count) (found i .at) (plan start .types) (start .args .job) (start .args .kind))
+      c .load-answer .ensures ∙ (λ i. asked (agrees i .answer) (found i .at))
 
 -- where they are met
 module _ (c : tie.After-enum-told) where
+  abbrev agreeing : tie.After-agree
+  agreeing = c .before .before .before .before
+
   abbrev s : tie.Start
   s = start (c .before .before)
 
@@ -62,9 +68,9 @@ module _ (c : tie.After-enum-told) where
   staged : IsStage (plan s) (s .args .kind) 1
   staged = (loads .type, omega (arith, loads .sound .lengths (s .args .kind) (loads .type)))
 
-  agrees : c .before .before .before .before .agree .result ≡ agreedWith (sumsOf (plan s) (jobsOf (list s))) (ceilingsOf (plan s))
+  agrees : agreeing .agree .result ≡ agreedWith (sumsOf (plan s) (jobsOf (list s))) (ceilingsOf (plan s))
   agrees =
-      c .before .before .before .before .agree .ensures
+      agreeing .agree .ensures
       ∙ agreed-met (plan s) (list s) (met-agreement (plan s) (list s) (loads .sound) (loads .agrees))
 
 -- where the first stage stands
@@ -111,11 +117,15 @@ load-answer-requires c κs = tt
 enum-told : tie.Need-enum-told
 enum-told c = search needs
 
+refused-requires : tie.Need-refused-requires
+refused-requires c κs = tt
+
 returns : tie.Need-returns
 returns c =
-    let a = start (c .before) in
-    load-refused (plan a) (list a) (a .args .job) (a .args .kind) _ _ (agreed-answer (plan a) (list a)) (first-says (c .before))
-    (refused-tag (c .before .load-answer .result) (c .match .keys2))
+    let a = start (c .before .before) in
+    c .refused .ensures
+    ∙ load-refused (plan a) (list a) (a .args .job) (a .args .kind) _ _ (agreed-answer (plan a) (list a)) (first-says (c .before .before))
+    (refused-tag (c .before .before .load-answer .result) (c .before .match .keys2))
 
 stage-index-requires : tie.Need-stage-index-requires
 stage-index-requires c κs = tt
@@ -135,10 +145,15 @@ kept-after-requires c κs = tt
 enum-told-2 : tie.Need-enum-told-2
 enum-told-2 c = search needs
 
+refused-requires-2 : tie.Need-refused-requires-2
+refused-requires-2 c κs = tt
+
 returns-2 : tie.Need-returns-2
 returns-2 c =
-    let a = s (m (c .before)) in
-    refused-outcome (plan a) (list a) (event a) _ (says (c .before)) (refused-tag (c .before .kept-after .result) (c .match2 .keys2))
+    let kept = c .before .before in
+    let a = s (m kept) in
+    let refused = refused-tag (kept .kept-after .result) (c .before .match2 .keys2) in
+    c .refused2 .ensures ∙ refused-outcome (plan a) (list a) (event a) _ (says kept) refused
 
 with-job-requires : tie.Need-with-job-requires
 with-job-requires c κs = tt
@@ -160,6 +175,7 @@ load-spec =
     cast-load-answer
     load-answer-requires
     enum-told
+    refused-requires
     returns
     stage-index-requires
     mul-new
@@ -167,6 +183,7 @@ load-spec =
     no-stage-requires
     kept-after-requires
     enum-told-2
+    refused-requires-2
     returns-2
     with-job-requires
     returns-3)

@@ -1,6 +1,6 @@
 -- The questions are asked in parts; the last judges the sums with no stage exchanged.
 use mathlib.Core.Bool.{true}
-use mathlib.Core.Path.{_≡_, refl, sym, ap, _∙_}
+use mathlib.Core.Path.{_≡_, sym, ap, _∙_}
 use borrow.Author.Needs.{needs}
 use borrow.Author.Tests.{not-true, not-false}
 use Rattle.model.specs.Plan.{noStage}
@@ -32,20 +32,26 @@ module _ (c : tie.Else1) where
   sound : Sound plan
   sound = holds (decides-sound plan) (sym (c .before .is-sound .ensures) ∙ not-false _ (c .if1 .left))
 
+abbrev sound-at : tie.After-well-formed → tie.Else1
+sound-at c = c .before .before .before .before
+
 -- where the list is well formed, and the sums are tested
 module _ (c : tie.After-kept-after) where
+  abbrev summed : tie.After-sums-of
+  summed = c .before .before .before .before .before .before
+
   abbrev formed-at : tie.Else2
-  formed-at = c .before .before .before .before .before .before .before
+  formed-at = summed .before
 
   abbrev asked : tie.Else1
-  asked = formed-at .before .before .before .before .before
+  asked = sound-at (formed-at .before)
 
   formed : wellFormed (plan asked .types) (plan asked .lengths) (list asked) ≡ true
   formed = sym (formed-at .before .well-formed .ensures) ∙ not-false _ (formed-at .if2 .left)
 
   says : c .kept-after .result ≡ keptAfter (sumsOf (plan asked) (jobsOf (list asked))) noStage noStage (ceilingsOf (plan asked))
   says =
-      let sums = c .before .before .before .before .before .before .sums-of .ensures in
+      let sums = summed .sums-of .ensures in
       let capacity = c .before .before .before .widened .ensures in
       let none = c .before .before .no-stage .ensures in
       let none2 = c .before .no-stage2 .ensures in
@@ -74,7 +80,7 @@ refused-requires-2 c κs = tt
 
 returns-2 : tie.Need-returns-2
 returns-2 c =
-    let s = c .before .before .before .before .before .before in
+    let s = sound-at (c .before .before) in
     let unformed = sym (c .before .before .well-formed .ensures) ∙ not-true _ (c .before .if2 .taken) in
     c .refused2 .ensures ∙ sym (agreed-unformed (plan s) (list s) (sound s) (list-slots (list s) _ (start s .good .1 .0)) unformed)
 
@@ -104,14 +110,15 @@ returns-3 c =
     let k = c .before .before in
     let s = asked k in
     let slots = list-slots (list s) _ (start s .good .1 .0) in
-    c .refused3 .ensures ∙ sym (agreed-exceeded (plan s) (list s) (sound s) slots (formed k) _ (says k) (refused-tag (k .kept-after .result) (c .before .match .keys2)))
+    let above = refused-tag (k .kept-after .result) (c .before .match .keys2) in
+    c .refused3 .ensures ∙ sym (agreed-exceeded (plan s) (list s) (sound s) slots (formed k) _ (says k) above)
 
 returns-4 : tie.Need-returns-4
 returns-4 c =
     let k = c .before .before in
     let s = asked k in
     let slots = list-slots (list s) _ (start s .good .1 .0) in
-    let sums = k .before .before .before .before .before .before .sums-of .ensures in
+    let sums = summed k .sums-of .ensures in
     let capacity = k .before .before .before .widened .ensures in
     (λ i. agreedWith (sums i) (record { capacity = capacity i; bound = plan s .bound }))
     ∙ sym (agreed-kept (plan s) (list s) (sound s) slots (formed k) _ (says k) (ap isAdmitted (c .enum-told .given .1)))

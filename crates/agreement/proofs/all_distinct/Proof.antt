@@ -4,7 +4,8 @@ use mathlib.Core.Path.{_≡_, refl, sym, ap, _∙_}
 use native.Mathlib.Omega.{arith}
 use borrow.Author.Tests.{not-true, not-false}
 use native.Mathlib.Numerals.{add-one}
-use mathlib.Core.Bool.{not}
+use mathlib.Core.Bool.{Bool, true, false, not, _&&_}
+use mathlib.Core.List.{List}
 use lib.Dec.{eqb}
 use lib.ListN.{length, drop, getD, length-drop, drop-of-length-le}
 use lib.Seq.{drop-cons, take-all}
@@ -47,18 +48,28 @@ part-none-equals-end c = search needs
 none-equals-requires : tie.Need-none-equals-requires Inv-loop μ-loop
 none-equals-requires c κs = tt
 
--- the part lent is all that stands after place i
-rest-differs : (c : tie.After-none-equals Inv-loop μ-loop) → let ns = c .before .before .before .before .before .before .args .ns .now in let i = c .before .before .before .before .loop .at in each (λ (m : ℕ). not (eqb m (getD ns i 0))) (drop (i + 1) ns) ≡ c .none-equals .result
-rest-differs c =
-    let ns = c .before .before .before .before .before .before .args .ns .now in
-    let i = c .before .before .before .before .loop .at in
-    sym (c .none-equals .ensures ∙ ap (each (λ (m : ℕ). not (eqb m (getD ns i 0)))) (take-all (length ns - (i + 1)) (drop (i + 1) ns) (omega (arith, length-drop (i + 1) ns))))
+-- at the number of one turn
+module _ (c : tie.After-none-equals Inv-loop μ-loop) where
+  abbrev turn : tie.At-loop Inv-loop μ-loop
+  turn = c .before .before .before .before
+
+  abbrev ns : List ℕ
+  ns = turn .before .before .args .ns .now
+
+  abbrev i : ℕ
+  i = turn .loop .at
+
+  -- the part lent is all that stands after it
+  rest-differs : each (λ (m : ℕ). not (eqb m (getD ns i 0))) (drop (i + 1) ns) ≡ c .none-equals .result
+  rest-differs =
+      let whole = take-all (length ns - (i + 1)) (drop (i + 1) ns) (omega (arith, length-drop (i + 1) ns)) in
+      sym (c .none-equals .ensures ∙ ap (each (λ (m : ℕ). not (eqb m (getD ns i 0)))) whole)
+
+  distinct-here : (b : Bool) → c .none-equals .result ≡ b → distinct ns ≡ (b && distinct (drop (i + 1) ns))
+  distinct-here b says = turn .loop .inv ∙ rw (drop-cons ns i 0 (omega arith), ← add-one i, rest-differs ∙ says) (rw add-one refl)
 
 returns : tie.Need-returns Inv-loop μ-loop
-returns c =
-    let l = c .before .before .before .before .before .loop in
-    let ns = c .before .before .before .before .before .before .before .args .ns .now in
-    sym (l .inv ∙ rw (drop-cons ns (l .at) 0 (omega arith), ← add-one (l .at), rest-differs (c .before), not-true (c .before .none-equals .result) (c .if1 .taken)) refl)
+returns c = sym (distinct-here (c .before) false (not-true _ (c .if1 .taken)))
 
 add-at : tie.Need-add-at Inv-loop μ-loop
 add-at c = search needs
@@ -67,10 +78,7 @@ loop-less : tie.Need-loop-less Inv-loop μ-loop
 loop-less c = search needs
 
 loop-again : tie.Need-loop-again Inv-loop μ-loop
-loop-again c =
-    let l = c .before .before .before .before .before .loop in
-    let ns = c .before .before .before .before .before .before .before .args .ns .now in
-    l .inv ∙ rw (drop-cons ns (l .at) 0 (omega arith), ← add-one (l .at), rest-differs (c .before), not-false (c .before .none-equals .result) (c .if1 .left)) (rw add-one refl)
+loop-again c = distinct-here (c .before) true (not-false _ (c .if1 .left))
 
 returns-2 : tie.Need-returns-2 Inv-loop μ-loop
 returns-2 c =

@@ -1,14 +1,17 @@
 -- What the jobs from i on say is what all of them say.
-use Prim.Native.Nat.{_-_}
+use Prim.Native.Nat.{ℕ, _+_, _-_}
+use mathlib.Core.Bool.{Bool, true, false, _&&_}
 use mathlib.Core.Path.{_≡_, refl, sym, _∙_}
 use native.Mathlib.Omega.{arith}
 use borrow.Author.Tests.{not-true, not-false}
-use lib.ListN.{length, drop, getD, length-map}
+use lib.ListN.{length, drop, getD}
 use lib.Seq.{getD-take, length-take-le}
 use Rattle.model.specs.Numbers.{each}
 use Rattle.model.specs.Jobs.{noJob, fits}
+use Rattle.model.specs.declared.Job.{Job}
 use Rattle.model.proofs.Search.{each-here, each-end}
 use Rattle.events.specs.JobList.{jobsOf}
+use Rattle.events.specs.declared.JobList.{JobList}
 use Rattle.events.proofs.Arrays.{list-slots}
 use borrow.Author.Needs.{needs}
 use Rattle.agreement.proofs.jobs_fit.Statement.{statement}
@@ -35,12 +38,30 @@ element-copy-out-j c = search needs
 job-fits-requires : tie.Need-job-fits-requires Inv-loop μ-loop
 job-fits-requires c κs = tt
 
+-- at one job: what is said from it on is what it says, and what is said from the next on
+module _ (c : tie.After-job-fits Inv-loop μ-loop) where
+  abbrev turn : tie.At-loop Inv-loop μ-loop
+  turn = c .before .before .before
+
+  abbrev start : tie.Start Inv-loop μ-loop
+  start = turn .before
+
+  abbrev list : JobList
+  list = start .args .t1
+
+  abbrev i : ℕ
+  i = turn .loop .i
+
+  abbrev fitting : Job → Bool
+  fitting = fits (start .args .types) (start .args .lengths .now)
+
+  fits-here : (b : Bool) → c .job-fits .result ≡ b → each fitting (jobsOf list) ≡ (b && each fitting (drop (i + 1) (jobsOf list)))
+  fits-here b says =
+      let here : getD (jobsOf list) i noJob ≡ getD (list .jobs) i noJob = getD-take (list .count) (list .jobs) i noJob (omega arith) in
+      turn .loop .inv .2 ∙ each-here fitting (jobsOf list) i noJob (omega arith) ∙ rw (here, sym (c .job-fits .ensures) ∙ says) refl
+
 returns : tie.Need-returns Inv-loop μ-loop
-returns c =
-    let l = c .before .before .before .before .loop in
-    let a = c .before .before .before .before .before .args in
-    let here : getD (jobsOf (a .t1)) (l .i) noJob ≡ getD (a .t1 .jobs) (l .i) noJob = getD-take (a .t1 .count) (a .t1 .jobs) (l .i) noJob (omega arith) in
-    sym (l .inv .2 ∙ each-here _ (jobsOf (a .t1)) (l .i) noJob (omega arith) ∙ rw (here, sym (c .before .job-fits .ensures) ∙ not-true _ (c .if1 .taken)) refl)
+returns c = sym (fits-here (c .before) false (not-true _ (c .if1 .taken)))
 
 add-i : tie.Need-add-i Inv-loop μ-loop
 add-i c = search needs
@@ -49,11 +70,7 @@ loop-less : tie.Need-loop-less Inv-loop μ-loop
 loop-less c = search needs
 
 loop-again : tie.Need-loop-again Inv-loop μ-loop
-loop-again c =
-    let l = c .before .before .before .before .loop in
-    let a = c .before .before .before .before .before .args in
-    let here : getD (jobsOf (a .t1)) (l .i) noJob ≡ getD (a .t1 .jobs) (l .i) noJob = getD-take (a .t1 .count) (a .t1 .jobs) (l .i) noJob (omega arith) in
-    (refl, l .inv .1, l .inv .2 ∙ each-here _ (jobsOf (a .t1)) (l .i) noJob (omega arith) ∙ rw (here, sym (c .before .job-fits .ensures) ∙ not-false _ (c .if1 .left)) refl)
+loop-again c = let k = c .before in (refl, turn k .loop .inv .1, fits-here k true (not-false _ (c .if1 .left)))
 
 returns-2 : tie.Need-returns-2 Inv-loop μ-loop
 returns-2 c = sym (c .before .loop .inv .2 ∙ each-end _ (jobsOf (c .before .before .args .t1)) (c .before .loop .i) (omega arith))

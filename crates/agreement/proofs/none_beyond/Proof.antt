@@ -1,13 +1,15 @@
 -- What the places from i on say is what all beyond the jobs say.
-use Prim.Native.Nat.{_-_}
+use Prim.Native.Nat.{ℕ, _+_, _-_}
+use mathlib.Core.Bool.{Bool, true, false, _&&_}
 use mathlib.Core.Path.{_≡_, refl, sym, _∙_}
 use native.Mathlib.Omega.{arith}
 use borrow.Author.Tests.{not-true, not-false}
-use lib.ListN.{length, drop, length-map}
+use lib.ListN.{length, drop}
 use Rattle.model.specs.Numbers.{each}
 use Rattle.model.specs.Jobs.{noJob}
 use Rattle.model.proofs.Search.{each-here, each-end}
 use Rattle.events.specs.JobList.{isNoJob}
+use Rattle.events.specs.declared.JobList.{JobList}
 use Rattle.events.proofs.Arrays.{list-slots}
 use borrow.Author.Needs.{needs}
 use Rattle.agreement.proofs.none_beyond.Statement.{statement}
@@ -31,11 +33,24 @@ element-copy-out-j c = search needs
 is-none-requires : tie.Need-is-none-requires Inv-loop μ-loop
 is-none-requires c κs = tt
 
+-- at one place: what is said from it on is what it says, and what is said from the next on
+module _ (c : tie.After-is-none Inv-loop μ-loop) where
+  abbrev turn : tie.At-loop Inv-loop μ-loop
+  turn = c .before .before .before
+
+  abbrev list : JobList
+  list = turn .before .args .t1
+
+  abbrev i : ℕ
+  i = turn .loop .i
+
+  none-here : (b : Bool) → c .is-none .result ≡ b
+      → each isNoJob (drop (list .count) (list .jobs)) ≡ (b && each isNoJob (drop (i + 1) (list .jobs)))
+  none-here b says =
+      turn .loop .inv .1 ∙ each-here isNoJob (list .jobs) i noJob (omega arith) ∙ rw (sym (c .is-none .ensures) ∙ says) refl
+
 returns : tie.Need-returns Inv-loop μ-loop
-returns c =
-    let l = c .before .before .before .before .loop in
-    let a = c .before .before .before .before .before .args in
-    sym (l .inv .1 ∙ each-here _ (a .t1 .jobs) (l .i) noJob (omega arith) ∙ rw (sym (c .before .is-none .ensures) ∙ not-true _ (c .if1 .taken)) refl)
+returns c = sym (none-here (c .before) false (not-true _ (c .if1 .taken)))
 
 add-i : tie.Need-add-i Inv-loop μ-loop
 add-i c = search needs
@@ -44,10 +59,7 @@ loop-less : tie.Need-loop-less Inv-loop μ-loop
 loop-less c = search needs
 
 loop-again : tie.Need-loop-again Inv-loop μ-loop
-loop-again c =
-    let l = c .before .before .before .before .loop in
-    let a = c .before .before .before .before .before .args in
-    (l .inv .0, l .inv .1 ∙ each-here _ (a .t1 .jobs) (l .i) noJob (omega arith) ∙ rw (sym (c .before .is-none .ensures) ∙ not-false _ (c .if1 .left)) refl)
+loop-again c = let k = c .before in (turn k .loop .inv .0, none-here k true (not-false _ (c .if1 .left)))
 
 returns-2 : tie.Need-returns-2 Inv-loop μ-loop
 returns-2 c = sym (c .before .loop .inv .1 ∙ each-end _ (c .before .before .args .t1 .jobs) (c .before .loop .i) (omega arith))

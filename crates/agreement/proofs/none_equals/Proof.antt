@@ -1,9 +1,10 @@
 -- What the entries from i on say is what all of them say.
-use Prim.Native.Nat.{ℕ, _-_}
+use Prim.Native.Nat.{ℕ, _+_, _-_}
 use mathlib.Core.Path.{_≡_, refl, sym, _∙_}
-use mathlib.Core.Bool.{not}
+use mathlib.Core.Bool.{Bool, true, false, not, _&&_}
+use mathlib.Core.List.{List}
 use lib.Dec.{eqb}
-use lib.ListN.{length, drop}
+use lib.ListN.{length, drop, getD}
 use borrow.Author.Tests.{eq-eqb, ne-eqb}
 use Rattle.model.specs.Numbers.{each}
 use Rattle.model.proofs.Search.{each-here, each-end}
@@ -26,10 +27,25 @@ mul-if1 c = search needs
 shared-slice-read-if1 : tie.Need-shared-slice-read-if1 Inv-loop μ-loop
 shared-slice-read-if1 c = search needs
 
+-- at one entry: what is said from it on is what it says, and what is said from the next on
+module _ (c : tie.After-shared-slice-known Inv-loop μ-loop) where
+  abbrev turn : tie.At-loop Inv-loop μ-loop
+  turn = c .before .before
+
+  abbrev ns : List ℕ
+  ns = turn .before .args .ns .now
+
+  abbrev differs : ℕ → Bool
+  differs m = not (eqb m (turn .before .args .n))
+
+  abbrev i : ℕ
+  i = turn .loop .i
+
+  differs-here : (b : Bool) → eqb (getD ns i 0) (turn .before .args .n) ≡ b → each differs ns ≡ (not b && each differs (drop (i + 1) ns))
+  differs-here b says = turn .loop .inv ∙ each-here differs ns i 0 (search needs) ∙ rw says refl
+
 returns : tie.Need-returns Inv-loop μ-loop
-returns c =
-    let l = c .before .before .before .loop in
-    sym (l .inv ∙ each-here _ (c .before .before .before .before .args .ns .now) (l .i) 0 (search needs) ∙ rw (eq-eqb _ _ (c .if1 .taken)) refl)
+returns c = sym (differs-here (c .before) true (eq-eqb _ _ (c .if1 .taken)))
 
 add-i : tie.Need-add-i Inv-loop μ-loop
 add-i c = search needs
@@ -38,9 +54,7 @@ loop-less : tie.Need-loop-less Inv-loop μ-loop
 loop-less c = search needs
 
 loop-again : tie.Need-loop-again Inv-loop μ-loop
-loop-again c =
-    let l = c .before .before .before .loop in
-    l .inv ∙ each-here _ (c .before .before .before .before .args .ns .now) (l .i) 0 (search needs) ∙ rw (ne-eqb _ _ (c .if1 .left)) refl
+loop-again c = differs-here (c .before) false (ne-eqb _ _ (c .if1 .left))
 
 returns-2 : tie.Need-returns-2 Inv-loop μ-loop
 returns-2 c = sym (c .before .loop .inv ∙ each-end _ (c .before .before .args .ns .now) (c .before .loop .i) (search needs))

@@ -3,7 +3,7 @@ use Prim.Native.Nat.{ℕ, _-_, _≤_, _<_}
 use mathlib.Core.Path.{_≡_, refl, sym, _∙_}
 use native.Mathlib.Omega.{arith}
 use native.Mathlib.Numerals.{add-one}
-use lib.ListN.{length, take, length-map, length-set, List·getD-map}
+use lib.ListN.{length, take, getD, length-map, length-set, List·getD-map}
 use lib.Seq.{take-suc, take-suc-set, take-all}
 use Rattle.model.specs.Jobs.{noJob, numbers}
 use Rattle.model.specs.declared.Job.{Job}
@@ -47,7 +47,10 @@ loop-again c =
     let l = c .before .before .loop in
     let jobs = c .before .before .before .args .t1 .jobs in
     let room : l .i < length (numbers jobs) = omega (arith, length-map jobs number) in
-    (search needs, simp length-set (l .inv .1), l .inv .2, rw (add-one, take-suc-set (l .ns) (l .i) _ (omega arith), take-suc (numbers jobs) (l .i) 0, List·getD-map number jobs (l .i) noJob, l .inv .3) refl)
+    let written = take-suc-set (l .ns) (l .i) (getD jobs (l .i) noJob .number) (omega arith) in
+    let read = take-suc (numbers jobs) (l .i) 0 room in
+    let same = List·getD-map number jobs (l .i) noJob in
+    (search needs, simp length-set (l .inv .1), l .inv .2, rw (add-one, written, read, same, l .inv .3) refl)
 
 returns : tie.Need-returns Inv-loop μ-loop
 returns c =

@@ -1,18 +1,57 @@
 -- Each return has the first test that fails.
+use Prim.Native.Nat.{ℕ}
+use mathlib.Core.Bool.{true}
 use mathlib.Core.Path.{_≡_, refl, sym, ap, _∙_}
 use native.Mathlib.Omega.{arith}
 use borrow.Author.Tests.{lt-leb, le-leb, not-true, not-false}
-use lib.ListN.{length, take, length-map}
+use lib.Dec.{leb}
+use lib.ListN.{length, take, drop, length-map}
 use lib.Seq.{length-take-le}
 use Rattle.model.proofs.Lists.{map-take}
 use Rattle.events.proofs.Arrays.{list-slots}
 use Rattle.model.specs.declared.Job.{Job}
 use Rattle.model.specs.Limits.{maxJobs}
-use Rattle.model.specs.Jobs.{numbers, distinct}
+use Rattle.model.specs.Numbers.{each}
+use Rattle.model.specs.Jobs.{distinct, fits}
+use Rattle.events.specs.JobList.{jobsOf, isNoJob}
+use Rattle.events.specs.declared.JobList.{JobList}
 use Rattle.parts.specs.Parts.{wellFormed}
 use borrow.Author.Needs.{needs}
 use Rattle.agreement.proofs.well_formed.Statement.{statement}
 use Rattle.agreement.proofs.well_formed.Tie as tie
+
+abbrev number : Job → ℕ
+number j = j .number
+
+-- where the count is low
+module _ (c : tie.Else1) where
+  abbrev start : tie.Start
+  start = c .before
+
+  abbrev list : JobList
+  list = start .args .t
+
+  low : leb (list .count) maxJobs ≡ true
+  low = le-leb (list .count) maxJobs (c .if1 .left)
+
+-- where there are only zeros beyond the jobs
+module _ (c : tie.Else2) where
+  abbrev counted : tie.Else1
+  counted = c .before .before
+
+  clear : each isNoJob (drop (list counted .count) (list counted .jobs)) ≡ true
+  clear = sym (c .before .none-beyond .ensures) ∙ not-false _ (c .if2 .left)
+
+-- where the jobs fit one by one
+module _ (c : tie.Else3) where
+  abbrev cleared : tie.Else2
+  cleared = c .before .before
+
+  abbrev begun : tie.Start
+  begun = start (counted cleared)
+
+  fitting : each (fits (begun .args .types) (begun .args .lengths .now)) (jobsOf (begun .args .t)) ≡ true
+  fitting = sym (c .before .jobs-fit .ensures) ∙ not-false _ (c .if3 .left)
 
 returns : tie.Need-returns
 unfolding wellFormed
@@ -23,7 +62,7 @@ none-beyond-requires c κs = tt
 
 returns-2 : tie.Need-returns-2
 unfolding wellFormed
-returns-2 c = rw (le-leb (c .before .before .before .args .t .count) maxJobs (c .before .before .if1 .left), sym (c .before .none-beyond .ensures) ∙ not-true _ (c .if2 .taken)) refl
+returns-2 c = rw (low (c .before .before), sym (c .before .none-beyond .ensures) ∙ not-true _ (c .if2 .taken)) refl
 
 jobs-fit-requires : tie.Need-jobs-fit-requires
 jobs-fit-requires c κs = search needs
@@ -31,7 +70,8 @@ jobs-fit-requires c κs = search needs
 returns-3 : tie.Need-returns-3
 unfolding wellFormed
 returns-3 c =
-    rw (le-leb (c .before .before .before .before .before .args .t .count) maxJobs (c .before .before .before .before .if1 .left), sym (c .before .before .before .none-beyond .ensures) ∙ not-false _ (c .before .before .if2 .left), sym (c .before .jobs-fit .ensures) ∙ not-true _ (c .if3 .taken)) refl
+    let e = c .before .before in
+    rw (low (counted e), clear e, sym (c .before .jobs-fit .ensures) ∙ not-true _ (c .if3 .taken)) refl
 
 numbers-of-requires : tie.Need-numbers-of-requires
 numbers-of-requires c κs = tt
@@ -41,10 +81,12 @@ array-share-prefix-numbers c = search needs
 
 slice-aggregate-all-distinct : tie.Need-slice-aggregate-all-distinct
 slice-aggregate-all-distinct c =
-    let s = c .before .before .before .before .before .before .before in
+    let e = c .before .before in
+    let t = list (counted (cleared e)) in
     let numbers = c .before .numbers-of in
-    let long : length (numbers .result) ≡ 64 = ap length (numbers .ensures) ∙ length-map (s .args .t .jobs) (λ (j : Job). j .number) ∙ list-slots (s .args .t) _ (s .good .0) in
-    sym (length-take-le (s .args .t .count) (numbers .result) (omega (arith, c .before .before .before .before .before .before .if1 .left)))
+    let slots = list-slots t _ (begun e .good .0) in
+    let long : length (numbers .result) ≡ 64 = ap length (numbers .ensures) ∙ length-map (t .jobs) number ∙ slots in
+    sym (length-take-le (t .count) (numbers .result) (omega (arith, counted (cleared e) .if1 .left)))
 
 all-distinct-requires : tie.Need-all-distinct-requires
 all-distinct-requires c κs = tt
@@ -52,9 +94,10 @@ all-distinct-requires c κs = tt
 returns-4 : tie.Need-returns-4
 unfolding wellFormed
 returns-4 c =
-    let t = c .before .before .before .before .before .before .before .before .args .t in
-    rw (le-leb (t .count) maxJobs (c .before .before .before .before .before .before .before .if1 .left), sym (c .before .before .before .before .before .before .none-beyond .ensures) ∙ not-false _ (c .before .before .before .before .before .if2 .left), sym (c .before .before .before .before .jobs-fit .ensures) ∙ not-false _ (c .before .before .before .if3 .left))
-    (c .all-distinct .ensures ∙ ap distinct (ap (take (t .count)) (c .before .before .numbers-of .ensures) ∙ map-take (λ (j : Job). j .number) (t .count) (t .jobs)))
+    let e = c .before .before .before in
+    let t = list (counted (cleared e)) in
+    let named = ap (take (t .count)) (c .before .before .numbers-of .ensures) ∙ map-take number (t .count) (t .jobs) in
+    rw (low (counted (cleared e)), clear (cleared e), fitting e) (c .all-distinct .ensures ∙ ap distinct named)
 
 pub well-formed-spec : {M : Type 1} → statement M
 well-formed-spec =

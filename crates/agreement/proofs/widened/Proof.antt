@@ -41,7 +41,9 @@ loop-again c =
     let l = c .before .before .loop in
     let xs = c .before .before .before .args .t1 in
     let room : l .i < length xs = omega arith in
-    (search needs, simp length-set (l .inv .1), l .inv .2, rw (add-one, take-suc-set (l .ys) (l .i) _ (omega arith), take-suc xs (l .i) 0, l .inv .3, c .u8-to-u16 .ensures) refl)
+    let written = take-suc-set (l .ys) (l .i) (c .u8-to-u16 .result) (omega arith) in
+    let read = take-suc xs (l .i) 0 room in
+    (search needs, simp length-set (l .inv .1), l .inv .2, rw (add-one, written, read, l .inv .3, c .u8-to-u16 .ensures) refl)
 
 returns : tie.Need-returns Inv-loop μ-loop
 returns c =

@@ -30,10 +30,11 @@ without-job-requires c κs = tt
 
 returns : tie.Need-returns
 returns c p sound agrees same =
-    let s = c .before .before .before .before .before in
+    let d = c .before .before .before in
+    let s = d .before .before in
     let a = s .args in
     let length′ = ap (λ (ls : List ℕ). at ls (job s .kind)) same in
-    let last : lengthOf p (job s .kind) ≡ job s .stage = length′ ∙ sym (c .before .before .before .length-of .ensures) ∙ c .before .if1 .taken in
+    let last : lengthOf p (job s .kind) ≡ job s .stage = length′ ∙ sym (d .length-of .ensures) ∙ c .before .if1 .taken in
     c .without-job .ensures ∙ last-leads p (a .t1) sound agrees (a .at) (s .pre .0) last
 
 add-t11 : tie.Need-add-t11
@@ -45,10 +46,11 @@ with-replaced-requires c κs = tt
 returns-2 : tie.Need-returns-2
 returns-2 c p sound agrees same =
     let e = c .before .before in
-    let s = e .before .before .before .before in
+    let d = e .before .before in
+    let s = d .before .before in
     let a = s .args in
     let length′ = ap (λ (ls : List ℕ). at ls (job s .kind)) (sym same) in
-    let other : lengthOf p (job s .kind) ≢ job s .stage = λ h. e .if1 .left (e .before .before .length-of .ensures ∙ length′ ∙ h) in
+    let other : lengthOf p (job s .kind) ≢ job s .stage = λ h. e .if1 .left (d .length-of .ensures ∙ length′ ∙ h) in
     c .with-replaced .ensures ∙ next-leads p (a .t1) sound agrees (a .at) (s .pre .0) other
 
 pub after-move-spec : {M : Type 1} → statement M

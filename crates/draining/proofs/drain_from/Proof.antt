@@ -1,14 +1,17 @@
 -- What is left to do from the table at hand, after the moves made, is what was to do at the start.
-use Prim.Native.Nat.{_-_, _+_, _≤_, _<_}
+use Prim.Native.Nat.{ℕ, _-_, _+_, _≤_, _<_}
 use native.Mathlib.Omega.{arith}
 use mathlib.Core.Path.{_≡_, refl, sym, ap, subst⁻¹, _∙_}
+use lib.ListN.{length, getD}
 use Rattle.model.specs.Soundness.{Sound}
-use Rattle.events.specs.JobList.{Agrees}
-use lib.ListN.{getD}
 use Rattle.model.specs.Jobs.{noJob, AtStage}
+use Rattle.model.specs.declared.Plan.{Plan}
+use Rattle.events.specs.JobList.{Agrees}
 use Rattle.events.specs.Events.{listAfter}
 use Rattle.events.specs.Drain.{moveOf, drainFrom, stopped}
-use Rattle.parts.specs.Parts.{ceilingsOf}
+use Rattle.parts.specs.Parts.{ceilingsOf, earliestPosition, movedAt}
+use Rattle.events.specs.declared.JobList.{JobList}
+use Rattle.events.specs.declared.End.{End}
 use Rattle.events.specs.declared.End.the-variants.{Emptied, OutOfBudget, NoMove}
 use Rattle.model.proofs.Lists.{each-getD}
 use Rattle.parts.proofs.DrainLoop.{after, after-none, after-stopped, after-more, drain-empty, drain-spent, drain-stuck, drain-goes, next-list, next-agrees}
@@ -18,10 +21,88 @@ use Rattle.draining.proofs.drain_from.Tie as tie
 
 abbrev Inv-loop : tie.InvT-loop
 Inv-loop p ceilings budget lengths t₀ moves₀ t moves =
-    Sound p × Agrees p t × (ceilings ≡ ceilingsOf p) × (lengths ≡ p .lengths) × (moves ≤ budget) × (drainFrom p budget t₀ ≡ after moves (drainFrom p (budget - moves) t))
+    Sound p × Agrees p t × (ceilings ≡ ceilingsOf p) × (lengths ≡ p .lengths) × (moves ≤ budget)
+    × (drainFrom p budget t₀ ≡ after moves (drainFrom p (budget - moves) t))
 
 abbrev μ-loop : tie.MeasureT-loop
 μ-loop p ceilings budget lengths t₀ moves₀ t moves = budget - moves
+
+-- at the head of the loop
+module _ (c : tie.At-loop Inv-loop μ-loop) where
+  abbrev start : tie.Start Inv-loop μ-loop
+  start = c .before .before
+
+  abbrev plan : Plan
+  plan = start .args .p
+
+  abbrev list : JobList
+  list = c .loop .t
+
+  abbrev moves : ℕ
+  moves = c .loop .moves
+
+  abbrev budget : ℕ
+  budget = start .args .budget
+
+  sound : Sound plan
+  sound = c .loop .inv .0
+
+  agrees : Agrees plan list
+  agrees = c .loop .inv .1
+
+  -- a drain that stops here has made the moves made
+  stops : (e : End) → drainFrom plan (budget - moves) list ≡ stopped e list
+      → record { end = e; moves = moves; list = list } ≡ drainFrom plan budget (start .args .t)
+  stops e h = sym (c .loop .inv .5 ∙ ap (after moves) h ∙ after-stopped moves (stopped e list) refl)
+
+abbrev head : tie.After-earliest Inv-loop μ-loop → tie.At-loop Inv-loop μ-loop
+head c = c .before .before .before .before
+
+-- where a job's move is admitted
+module _ (c : tie.Else3 Inv-loop μ-loop) where
+  abbrev found : tie.After-earliest Inv-loop μ-loop
+  found = c .before .before
+
+  abbrev turn : tie.At-loop Inv-loop μ-loop
+  turn = head found
+
+  abbrev p : Plan
+  p = plan turn
+
+  abbrev t : JobList
+  t = list turn
+
+  abbrev at : ℕ
+  at = found .earliest .result
+
+  left : 0 < t .count
+  left = omega arith
+
+  low : at < t .count
+  low = omega arith
+
+  staged : AtStage p (getD (t .jobs) at noJob)
+  staged =
+      let room : at < length (t .jobs) = omega (arith, low, agrees turn .few, agrees turn .slots) in
+      each-getD (AtStage p) (t .jobs) (t .count) at noJob (agrees turn .jobs .staged) low room
+
+  abbrev next : JobList
+  next = listAfter p t (moveOf p (getD (t .jobs) at noJob))
+
+  leads : movedAt p t at ≡ next
+  leads = next-list p t (sound turn) (agrees turn) left at (found .earliest .ensures) low
+
+  next-agreeing : Agrees p next
+  next-agreeing = next-agrees p t (sound turn) (agrees turn) left at (found .earliest .ensures) low
+
+  goes : drainFrom p (budget turn) (start turn .args .t) ≡ after (moves turn + 1) (drainFrom p (budget turn - (moves turn + 1)) next)
+  goes =
+      let n = budget turn - moves turn in
+      let rest : n - 1 ≡ budget turn - (moves turn + 1) = omega arith in
+      turn .loop .inv .5
+      ∙ ap (after (moves turn)) (drain-goes p t (sound turn) (agrees turn) left at (found .earliest .ensures) low n (omega arith))
+      ∙ after-more (moves turn) _
+      ∙ ap (λ n. after (moves turn + 1) (drainFrom p n next)) rest
 
 loop-holds : tie.Need-loop-holds Inv-loop μ-loop
 loop-holds c =
@@ -32,28 +113,23 @@ loop-holds c =
 
 returns : tie.Need-returns Inv-loop μ-loop
 returns c =
-    let l = c .before .before .before .loop in
-    let a = c .before .before .before .before .before .args in
-    sym (l .inv .5 ∙ ap (after (l .moves)) (drain-spent (a .p) (l .t) (l .inv .0) (l .inv .1) (omega arith) (a .budget - l .moves) (omega arith)) ∙ after-stopped (l .moves) (stopped OutOfBudget (l .t)) refl)
+    let k = c .before .before .before in
+    stops k OutOfBudget (drain-spent (plan k) (list k) (sound k) (agrees k) (omega arith) (budget k - moves k) (omega arith))
 
 earliest-requires : tie.Need-earliest-requires Inv-loop μ-loop
-earliest-requires c κs = let l = c .before .before .before .loop in (l .inv .0, l .inv .1, l .inv .2)
+earliest-requires c κs = let k = c .before .before .before in (sound k, agrees k, k .loop .inv .2)
 
 returns-2 : tie.Need-returns-2 Inv-loop μ-loop
 returns-2 c =
-    let l = c .before .before .before .before .before .before .loop in
-    let a = c .before .before .before .before .before .before .before .before .args in
-    sym (l .inv .5 ∙ ap (after (l .moves)) (drain-stuck (a .p) (l .t) (l .inv .0) (l .inv .1) (omega arith) (a .budget - l .moves) (omega arith) (omega (arith, c .before .before .earliest .ensures))) ∙ after-stopped (l .moves) (stopped NoMove (l .t)) refl)
+    let found = c .before .before in
+    let k = head found in
+    let none : list k .count ≤ earliestPosition (plan k) (list k) = omega (arith, found .earliest .ensures) in
+    stops k NoMove (drain-stuck (plan k) (list k) (sound k) (agrees k) (omega arith) (budget k - moves k) (omega arith) none)
 
 after-move-requires : tie.Need-after-move-requires Inv-loop μ-loop
 after-move-requires c κs =
-    let l = c .before .before .before .before .before .before .before .loop in
-    let p = c .before .before .before .before .before .before .before .before .before .args .p in
-    let at = c .before .before .before .earliest .result in
-    let low : at < l .t .count = omega arith in
-    let few = l .inv .1 .few in
-    let staged : AtStage p (getD (l .t .jobs) at noJob) = each-getD (AtStage p) (l .t .jobs) (l .t .count) at noJob (l .inv .1 .jobs .staged) low (omega (arith, low, few, l .inv .1 .slots)) in
-    (low, few, omega (arith, staged .1, l .inv .0 .lengths _ (staged .0)))
+    let e = c .before in
+    (low e, agrees (turn e) .few, omega (arith, staged e .1, sound (turn e) .lengths _ (staged e .0)))
 
 add-moves : tie.Need-add-moves Inv-loop μ-loop
 add-moves c = search needs
@@ -63,27 +139,16 @@ loop-less c = search needs
 
 loop-again : tie.Need-loop-again Inv-loop μ-loop
 loop-again c =
-    let l = c .before .before .before .before .before .before .before .before .loop in
-    let p = c .before .before .before .before .before .before .before .before .before .before .args .p in
-    let budget = c .before .before .before .before .before .before .before .before .before .before .args .budget in
-    let at = c .before .before .before .before .earliest in
-    let left : 0 < l .t .count = omega arith in
-    let low : at .result < l .t .count = omega arith in
-    let made = c .after-move .ensures p (l .inv .0) (l .inv .1) (sym (l .inv .3)) ∙ next-list p (l .t) (l .inv .0) (l .inv .1) left (at .result) (at .ensures) low in
-    let rest : budget - l .moves - 1 ≡ budget - (l .moves + 1) = omega arith in (
-      l .inv .0,
-      subst⁻¹ (Agrees p) made (next-agrees p (l .t) (l .inv .0) (l .inv .1) left (at .result) (at .ensures) low),
-      l .inv .2,
-      l .inv .3,
-      omega arith,
-      l .inv .5 ∙ ap (after (l .moves)) (drain-goes p (l .t) (l .inv .0) (l .inv .1) left (at .result) (at .ensures) low (budget - l .moves) (omega arith)) ∙ after-more (l .moves) _ ∙ ap (λ n. after (l .moves + 1) (drainFrom p n (listAfter p (l .t) (moveOf p (getD (l .t .jobs) (at .result) noJob))))) rest ∙ ap (λ u. after (l .moves + 1) (drainFrom p (budget - (l .moves + 1)) u)) (sym made),
-    )
+    let e = c .before .before in
+    let k = turn e in
+    let made = c .after-move .ensures (plan k) (sound k) (agrees k) (sym (k .loop .inv .3)) ∙ leads e in
+    let drained = goes e ∙ ap (λ u. after (moves k + 1) (drainFrom (plan k) (budget k - (moves k + 1)) u)) (sym made) in
+    (sound k, subst⁻¹ (Agrees (plan k)) made (next-agreeing e), k .loop .inv .2, k .loop .inv .3, omega arith, drained)
 
 returns-3 : tie.Need-returns-3 Inv-loop μ-loop
 returns-3 c =
-    let l = c .before .before .loop in
-    let a = c .before .before .before .before .args in
-    sym (l .inv .5 ∙ ap (after (l .moves)) (drain-empty (a .p) (l .t) (l .inv .0) (l .inv .1) (a .budget - l .moves) (omega arith)) ∙ after-stopped (l .moves) (stopped Emptied (l .t)) refl)
+    let k = c .before .before in
+    stops k Emptied (drain-empty (plan k) (list k) (sound k) (agrees k) (budget k - moves k) (omega arith))
 
 pub drain-from-spec : {M : Type 1} → statement M
 drain-from-spec =

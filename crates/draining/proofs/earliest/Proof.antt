@@ -6,11 +6,10 @@ use mathlib.Core.Logic.{_≢_}
 use mathlib.Core.Path.{_≡_, refl, sym, ap, _∙_}
 use lib.ListN.{drop, getD}
 use Rattle.model.specs.Limits.{maxAllStages}
-use Rattle.model.specs.Plan.{lengthOf, stageOf}
-use Rattle.model.specs.Jobs.{noJob, advancedJob, AtStage}
+use Rattle.model.specs.Plan.{lengthOf}
+use Rattle.model.specs.Jobs.{noJob, HasNext, AtStage}
 use Rattle.model.specs.Soundness.{Sound}
 use Rattle.model.specs.declared.Plan.{Plan}
-use Rattle.model.specs.declared.Stage.{Stage}
 use Rattle.model.specs.declared.Job.{Job}
 use Rattle.model.proofs.Arrays.{plan-stages}
 use Rattle.events.specs.JobList.{jobsOf, Agrees}
@@ -18,8 +17,8 @@ use Rattle.events.specs.Events.{isAdmitted, answer}
 use Rattle.events.specs.Drain.{moveOf}
 use Rattle.events.specs.declared.JobList.{JobList}
 use Rattle.events.proofs.Tags.{refused-tag}
-use Rattle.parts.specs.Parts.{stageIndex, firstMovable}
-use Rattle.parts.proofs.StageIndex.{index-next, index-within, stage-read}
+use Rattle.parts.specs.Parts.{firstMovable}
+use Rattle.parts.proofs.StageIndex.{from-within, to-within, old-read, new-read}
 use Rattle.parts.proofs.SumsAfter.{kept-same}
 use Rattle.parts.proofs.ListChanges.{count-is}
 use Rattle.parts.proofs.EarliestMove.{job-there-staged, has-next, last-moves, next-moves, movable-from, movable-none}
@@ -34,10 +33,13 @@ Inv-loop ceilings p t sums lengths count i₀ i =
 abbrev μ-loop : tie.MeasureT-loop
 μ-loop ceilings p t sums lengths count i₀ i = count - i
 
+abbrev begun : tie.At-loop Inv-loop μ-loop → tie.Start Inv-loop μ-loop
+begun c = c .before .before .before
+
 -- at a job of the list
 module _ (c : tie.In-loop Inv-loop μ-loop) where
   abbrev start : tie.Start Inv-loop μ-loop
-  start = c .before .before .before .before
+  start = begun (c .before)
 
   abbrev plan : Plan
   plan = start .args .t1
@@ -69,17 +71,24 @@ module _ (c : tie.In-loop Inv-loop μ-loop) where
       let here : firstMovable plan list (drop i (jobsOf list)) ≡ 0 = movable-from plan list sound agrees i low ∙ rw h refl in
       omega (arith, c .before .loop .inv .1)
 
-  goes-on : isAdmitted (answer plan list (moveOf plan job)) ≡ false → firstMovable plan list (jobsOf list) ≡ i + 1 + firstMovable plan list (drop (i + 1) (jobsOf list))
+  goes-on : isAdmitted (answer plan list (moveOf plan job)) ≡ false
+      → firstMovable plan list (jobsOf list) ≡ i + 1 + firstMovable plan list (drop (i + 1) (jobsOf list))
   goes-on h =
       let later : firstMovable plan list (drop i (jobsOf list)) ≡ suc (firstMovable plan list (drop (i + 1) (jobsOf list))) =
       movable-from plan list sound agrees i low ∙ rw h refl
       in
       omega (arith, c .before .loop .inv .1)
 
+abbrev entered : tie.After-length-of Inv-loop μ-loop → tie.In-loop Inv-loop μ-loop
+entered c = c .before .before .before
+
 -- at a job that is not at its last stage
 module _ (c : tie.After-stage-index Inv-loop μ-loop) where
+  abbrev measured : tie.After-length-of Inv-loop μ-loop
+  measured = c .before .before .before .before
+
   abbrev inside : tie.In-loop Inv-loop μ-loop
-  inside = c .before .before .before .before .before .before .before
+  inside = entered measured
 
   abbrev p : Plan
   p = plan inside
@@ -88,30 +97,16 @@ module _ (c : tie.After-stage-index Inv-loop μ-loop) where
   j = job inside
 
   other : lengthOf p (j .kind) ≢ j .stage
-  other e = c .before .before .if1 .left (c .before .before .before .before .length-of .ensures ∙ e)
+  other e = c .before .before .if1 .left (measured .length-of .ensures ∙ e)
 
-  next-staged : AtStage p (advancedJob p j)
-  next-staged = (staged inside .0, omega (arith, has-next p (list inside) (sound inside) (agrees inside) (i inside) (low inside) other))
+  more : HasNext p j
+  more = has-next p (list inside) (sound inside) (agrees inside) (i inside) (low inside) other
 
-  to : c .stage-index .result + 1 ≡ stageIndex (p .lengths) (j .kind) (j .stage + 1)
-  to = ap (λ n. n + 1) (c .stage-index .ensures) ∙ index-next (p .lengths) (j .kind) (j .stage) (staged inside .1 .0)
+  from-there : c .stage-index .result < maxAllStages
+  from-there = from-within p (sound inside) j (staged inside) more _ (c .stage-index .ensures)
 
-  from-within : c .stage-index .result < maxAllStages
-  from-within = rw (c .stage-index .ensures) (index-within p (sound inside) (j .kind) (j .stage) (staged inside))
-
-  to-within : c .stage-index .result + 1 < maxAllStages
-  to-within = rw to (index-within p (sound inside) (j .kind) (j .stage + 1) next-staged)
-
-  module _ (d : Stage) where
-    old-read : getD (p .stages) (c .stage-index .result) d ≡ stageOf p (j .kind) (j .stage)
-    old-read =
-        ap (λ n. getD (p .stages) n d) (c .stage-index .ensures)
-        ∙ stage-read p (sound inside) (j .kind) (j .stage) (staged inside) d (plan-stages p _ (start inside .good .0))
-
-    new-read : getD (p .stages) (c .stage-index .result + 1) d ≡ stageOf p (j .kind) (j .stage + 1)
-    new-read =
-        ap (λ n. getD (p .stages) n d) to
-        ∙ stage-read p (sound inside) (j .kind) (j .stage + 1) next-staged d (plan-stages p _ (start inside .good .0))
+  to-there : c .stage-index .result + 1 < maxAllStages
+  to-there = to-within p (sound inside) j (staged inside) more _ (c .stage-index .ensures)
 
 -- what is tried is the job's move
 module _ (c : tie.After-kept-after Inv-loop μ-loop) where
@@ -125,7 +120,11 @@ module _ (c : tie.After-kept-after Inv-loop μ-loop) where
   says =
       let sums = here .before .before .before .sums-of .ensures in
       let ceilings = start here .pre .2 in
-      next-moves (plan here) (list here) (sound here) (agrees here) (i here) (low here) (other indexed) _ _ (old-read indexed _) (new-read indexed _)
+      let slots = plan-stages (plan here) _ (start here .good .0) in
+      let index = indexed .stage-index .ensures in
+      let old = old-read (plan here) (sound here) (job here) (staged here) (more indexed) _ index _ slots in
+      let new = new-read (plan here) (sound here) (job here) (staged here) (more indexed) _ index _ slots in
+      next-moves (plan here) (list here) (sound here) (agrees here) (i here) (low here) (other indexed) _ _ old new
       ∙ sym (c .kept-after .ensures ∙ kept-same sums ceilings refl _)
 
 sums-of-requires : tie.Need-sums-of-requires Inv-loop μ-loop
@@ -145,7 +144,7 @@ length-of-requires c κs = tt
 
 returns : tie.Need-returns Inv-loop μ-loop
 returns c =
-    let h = c .before .before .before .before .before in
+    let h = entered (c .before .before) in
     let last = sym (c .before .before .length-of .ensures) ∙ c .if1 .taken in
     stops h (ap isAdmitted (last-moves (plan h) (list h) (sound h) (agrees h) (i h) (low h) last))
 
@@ -153,19 +152,19 @@ stage-index-requires : tie.Need-stage-index-requires Inv-loop μ-loop
 stage-index-requires c κs = tt
 
 mul-old : tie.Need-mul-old Inv-loop μ-loop
-mul-old c = omega (arith, from-within c)
+mul-old c = omega (arith, from-there c)
 
 element-copy-out-old : tie.Need-element-copy-out-old Inv-loop μ-loop
-element-copy-out-old c = from-within c
+element-copy-out-old c = from-there c
 
 add-to : tie.Need-add-to Inv-loop μ-loop
-add-to c = omega (arith, from-within (c .before))
+add-to c = omega (arith, from-there (c .before))
 
 mul-new : tie.Need-mul-new Inv-loop μ-loop
-mul-new c = omega (arith, to-within (c .before))
+mul-new c = omega (arith, to-there (c .before))
 
 element-copy-out-new : tie.Need-element-copy-out-new Inv-loop μ-loop
-element-copy-out-new c = to-within (c .before)
+element-copy-out-new c = to-there (c .before)
 
 kept-after-requires : tie.Need-kept-after-requires Inv-loop μ-loop
 kept-after-requires c κs = tt
@@ -190,7 +189,7 @@ loop-again c =
 returns-3 : tie.Need-returns-3 Inv-loop μ-loop
 returns-3 c =
     let l = c .before .loop in
-    let s = c .before .before .before .before in
+    let s = begun (c .before) in
     omega (arith, l .inv .1, movable-none (s .args .t1) (s .args .t2) (l .i) (omega (arith, count-is (s .args .t1) (s .args .t2) (s .pre .1))))
 
 pub earliest-spec : {M : Type 1} → statement M

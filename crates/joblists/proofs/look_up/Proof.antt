@@ -39,8 +39,14 @@ element-copy-out-j c = search needs
 
 -- the job that is read is the one at this position
 module _ (c : tie.In-loop Inv-loop μ-loop) where
+  abbrev start : tie.Start Inv-loop μ-loop
+  start = c .before .before .before
+
+  abbrev number : ℕ
+  number = start .args .number
+
   abbrev t : JobList
-  t = c .before .before .before .args .t1
+  t = start .args .t1
 
   abbrev i : ℕ
   i = c .before .loop .i
@@ -50,11 +56,9 @@ module _ (c : tie.In-loop Inv-loop μ-loop) where
 
 returns : tie.Need-returns Inv-loop μ-loop
 returns c =
-    let l = c .before .before .before .before .loop in
-    let a = c .before .before .before .before .before .before .args in
-    let read = here (c .before .before .before) in
-    let first = position-here (a .number) (jobsOf (a .t1)) (l .i) (omega arith) (rw read (c .if1 .taken)) in
-    found-there (a .number) (jobsOf (a .t1)) (l .i) _ (omega arith) read
+    let k = c .before .before .before in
+    let first = position-here (number k) (jobsOf (t k)) (i k) (omega arith) (rw (here k) (c .if1 .taken)) in
+    found-there (number k) (jobsOf (t k)) (i k) _ (omega arith) (here k)
 
 add-i : tie.Need-add-i Inv-loop μ-loop
 add-i c = search needs
@@ -64,10 +68,9 @@ loop-less c = search needs
 
 loop-again : tie.Need-loop-again Inv-loop μ-loop
 loop-again c =
-    let l = c .before .before .before .before .loop in
-    let a = c .before .before .before .before .before .before .args in
-    let read = here (c .before .before .before) in
-    let later = position-later (a .number) (jobsOf (a .t1)) (l .i) (omega arith) (rw read (c .if1 .left)) in
+    let k = c .before .before .before in
+    let l = k .before .loop in
+    let later = position-later (number k) (jobsOf (t k)) (i k) (omega arith) (rw (here k) (c .if1 .left)) in
     (l .inv .0, search needs, l .inv .2, omega arith)
 
 no-job-requires : tie.Need-no-job-requires Inv-loop μ-loop

@@ -16,7 +16,9 @@ counted-requires c κs = search needs
 returns : tie.Need-returns
 returns c =
     let a = c .before .before .before .args in
-    rw (eq-eqb _ 76 (c .before .before .if1 .taken)) (run-one (a .p) (a .t) (Load (a .job) (a .kind)) (c .before .load .result) (c .counted .result) (c .before .load .ensures) (c .counted .ensures))
+    let o = c .before .load in
+    rw (eq-eqb _ 76 (c .before .before .if1 .taken))
+    (run-one (a .p) (a .t) (Load (a .job) (a .kind)) (o .result) (c .counted .result) (o .ensures) (c .counted .ensures))
 
 advance-requires : tie.Need-advance-requires
 advance-requires c κs = search needs
@@ -26,8 +28,11 @@ counted-requires-2 c κs = search needs
 
 returns-2 : tie.Need-returns-2
 returns-2 c =
-    let a = c .before .before .before .before .args in
-    rw (ne-eqb _ 76 (c .before .before .before .if1 .left), eq-eqb _ 65 (c .before .before .if2 .taken)) (run-one (a .p) (a .t) (Advance (a .job)) (c .before .advance .result) (c .counted2 .result) (c .before .advance .ensures) (c .counted2 .ensures))
+    let e = c .before .before .before in
+    let a = e .before .args in
+    let o = c .before .advance in
+    rw (ne-eqb _ 76 (e .if1 .left), eq-eqb _ 65 (c .before .before .if2 .taken))
+    (run-one (a .p) (a .t) (Advance (a .job)) (o .result) (c .counted2 .result) (o .ensures) (c .counted2 .ensures))
 
 unload-requires : tie.Need-unload-requires
 unload-requires c κs = search needs
@@ -37,8 +42,11 @@ counted-requires-3 c κs = search needs
 
 returns-3 : tie.Need-returns-3
 returns-3 c =
-    let a = c .before .before .before .before .before .args in
-    rw (ne-eqb _ 76 (c .before .before .before .before .if1 .left), ne-eqb _ 65 (c .before .before .before .if2 .left), eq-eqb _ 85 (c .before .before .if3 .taken)) (run-one (a .p) (a .t) (Unload (a .job)) (c .before .unload .result) (c .counted3 .result) (c .before .unload .ensures) (c .counted3 .ensures))
+    let e = c .before .before .before in
+    let a = e .before .before .args in
+    let o = c .before .unload in
+    rw (ne-eqb _ 76 (e .before .if1 .left), ne-eqb _ 65 (e .if2 .left), eq-eqb _ 85 (c .before .before .if3 .taken))
+    (run-one (a .p) (a .t) (Unload (a .job)) (o .result) (c .counted3 .result) (o .ensures) (c .counted3 .ensures))
 
 returns-4 : tie.Need-returns-4
 returns-4 c =

@@ -1,6 +1,5 @@
 -- A bound of 16 bits is in range; the rest is the answer of zero_bounds_beyond.
 use native.Mathlib.Omega.{arith}
-use borrow.Author.Needs.{needs}
 use Rattle.model.specs.Limits.{maxBound}
 use Rattle.model.specs.Soundness.{soundBounds}
 use Rattle.model.proofs.Search.{all-small}

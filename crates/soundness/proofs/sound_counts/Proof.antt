@@ -10,7 +10,9 @@ use Rattle.model.proofs.Flags.{and-met}
 use Rattle.soundness.proofs.sound_counts.Statement.{statement}
 use Rattle.soundness.proofs.sound_counts.Tie as tie
 
-so-far : (c : tie.Joined3) → let args = c .before .before .before .args in c .if3 .if4 ≡ (inRange (args .resources) maxResources && inRange (args .types) maxTypes)
+so-far : (c : tie.Joined3) →
+    let args = c .before .before .before .args in
+    c .if3 .if4 ≡ (inRange (args .resources) maxResources && inRange (args .types) maxTypes)
 so-far c =
     let args = c .before .before .before .args in
     let first = and-met refl (λ w. (le-leb 1 _ (w .0 .taken), w .1)) (λ w. (lt-leb 1 _ (w .0 .left), w .1)) (c .before .before .if1 .came) in

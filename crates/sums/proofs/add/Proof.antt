@@ -22,6 +22,9 @@ Inv-loop amounts₀ more i₀ amounts i =
 abbrev μ-loop : tie.MeasureT-loop
 μ-loop amounts₀ more i₀ amounts i = 32 - i
 
+abbrev turn : tie.After-u8-to-u16 Inv-loop μ-loop → tie.At-loop Inv-loop μ-loop
+turn c = c .before .before .before .before
+
 loop-holds : tie.Need-loop-holds Inv-loop μ-loop
 loop-holds c = (search needs, c .pre .lanes, λ k h. absurd (omega arith), λ k h. refl)
 
@@ -39,8 +42,8 @@ u8-to-u16-requires c κs = search needs
 
 add-amounts : tie.Need-add-amounts Inv-loop μ-loop
 add-amounts c =
-    let l = c .before .before .before .before .loop in
-    let s = c .before .before .before .before .before in
+    let l = turn c .loop in
+    let s = turn c .before in
     omega (arith, s .pre .low (suc (l .i)) (omega arith), l .inv .3 (suc (l .i)) (omega arith))
 
 mul-amounts-2 : tie.Need-mul-amounts-2 Inv-loop μ-loop
@@ -57,8 +60,8 @@ loop-less c = search needs
 
 loop-again : tie.Need-loop-again Inv-loop μ-loop
 loop-again c =
-    let l = c .before .before .before .before .loop in
-    let a = c .before .before .before .before .before .args in
+    let l = turn c .loop in
+    let a = turn c .before .args in
     let was = l .inv .3 (suc (l .i)) (omega arith) in (
       search needs,
       simp length-set (l .inv .1),

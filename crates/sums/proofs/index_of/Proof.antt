@@ -6,6 +6,9 @@ use Rattle.parts.proofs.StageIndex.{index-none, index-there}
 use Rattle.sums.proofs.index_of.Statement.{statement}
 use Rattle.sums.proofs.index_of.Tie as tie
 
+abbrev start : tie.After-length-of → tie.Start
+start c = c .before .before .before .before .before
+
 returns : tie.Need-returns
 returns c =
     let a = c .before .before .args in
@@ -21,7 +24,7 @@ length-of-requires c κs = search needs
 
 returns-3 : tie.Need-returns-3
 returns-3 c =
-    let a = c .before .before .before .before .before .before .before .args in
+    let a = start (c .before .before) .args in
     sym (index-none (a .lengths .now) (a .types) (a .j .kind) (a .j .stage) (λ h. omega (arith, h .1 .1)))
 
 stage-index-requires : tie.Need-stage-index-requires
@@ -29,7 +32,7 @@ stage-index-requires c κs = search needs
 
 returns-4 : tie.Need-returns-4
 returns-4 c =
-    let a = c .before .before .before .before .before .before .before .before .args in
+    let a = start (c .before .before .before) .args in
     c .stage-index .ensures ∙ sym (index-there (a .lengths .now) (a .types) (a .j .kind) (a .j .stage) (omega arith) (omega arith))
 
 pub index-of-spec : {M : Type 1} → statement M

@@ -15,6 +15,9 @@ Inv-loop amounts old new ceilings i₀ i = (i ≤ 32) × (lowestAfter i amounts 
 abbrev μ-loop : tie.MeasureT-loop
 μ-loop amounts old new ceilings i₀ i = 32 - i
 
+abbrev turn : tie.After-is-kept Inv-loop μ-loop → tie.At-loop Inv-loop μ-loop
+turn c = c .before .before .before .before .before .before
+
 loop-holds : tie.Need-loop-holds Inv-loop μ-loop
 unfolding lowestAfter
 loop-holds c = (search needs, refl)
@@ -49,7 +52,7 @@ cast-result c = search needs
 returns : tie.Need-returns Inv-loop μ-loop
 unfolding lowestAfter
 returns c =
-    let l = c .before .before .before .before .before .before .before .loop in
+    let l = turn (c .before) .loop in
     sym (lowest-at _ 32 (l .i) (omega arith) (l .inv .1) (sym (c .before .is-kept .ensures) ∙ not-true _ (c .if1 .taken)))
 
 add-i : tie.Need-add-i Inv-loop μ-loop
@@ -61,7 +64,7 @@ loop-less c = search needs
 loop-again : tie.Need-loop-again Inv-loop μ-loop
 unfolding lowestAfter
 loop-again c =
-    let l = c .before .before .before .before .before .before .before .loop in
+    let l = turn (c .before) .loop in
     (search needs, lowest-more _ (l .i) (l .inv .1) (sym (c .before .is-kept .ensures) ∙ not-false _ (c .if1 .left)))
 
 returns-2 : tie.Need-returns-2 Inv-loop μ-loop

@@ -2,7 +2,6 @@
 use Prim.Native.Nat.{ℕ}
 use native.Mathlib.Omega.{arith}
 use mathlib.Core.Path.{_≡_, refl, sym, ap, _∙_}
-use borrow.Author.Needs.{needs}
 use borrow.Author.Tests.{eq-eqb, ne-eqb}
 use Rattle.model.specs.Numbers.{inRange, lowest}
 use Rattle.model.specs.Plan.{boundOf, capacityOf}
@@ -25,7 +24,10 @@ module _ (c : tie.After-faulty-bound) where
   abbrev plan : Plan
   plan = c .before .before .before .before .before .before .args .t1
 
-  row-is : faultyRow plan ≡ c .before .before .before .before .before .faulty-row .result
+  abbrev row : ℕ
+  row = c .before .before .before .before .before .faulty-row .result
+
+  row-is : faultyRow plan ≡ row
   row-is = sym (c .before .before .before .before .before .faulty-row .ensures)
 
   bound-is : faultyBound plan ≡ c .faulty-bound .result
@@ -35,13 +37,17 @@ module _ (c : tie.After-faulty-bound) where
       sym (c .faulty-bound .ensures ∙ ap search-of (c .before .u8-to-usize .ensures .0))
 
 returns : tie.Need-returns
-returns c = rw (row-is (c .before), ne-eqb _ 0 (c .if1 .taken)) refl
+returns c = rw (row-is (c .before), ne-eqb (row (c .before)) 0 (c .if1 .taken)) refl
 
 returns-2 : tie.Need-returns-2
-returns-2 c = rw (row-is (c .before .before), eq-eqb _ 0 (c .before .if1 .left), bound-is (c .before .before), ne-eqb _ 0 (c .if2 .taken)) refl
+returns-2 c =
+    let h = c .before .before in
+    rw (row-is h, eq-eqb (row h) 0 (c .before .if1 .left), bound-is h, ne-eqb (h .faulty-bound .result) 0 (c .if2 .taken)) refl
 
 returns-3 : tie.Need-returns-3
-returns-3 c = rw (row-is (c .before .before), eq-eqb _ 0 (c .before .if1 .left), bound-is (c .before .before), eq-eqb _ 0 (c .if2 .left)) refl
+returns-3 c =
+    let h = c .before .before in
+    rw (row-is h, eq-eqb (row h) 0 (c .before .if1 .left), bound-is h, eq-eqb (h .faulty-bound .result) 0 (c .if2 .left)) refl
 
 pub check-rows-spec : {M : Type 1} → statement M
 check-rows-spec = tie.close (tie.spec faulty-row-requires u8-to-usize-requires faulty-bound-requires returns returns-2 returns-3)

@@ -8,7 +8,10 @@ advance-requires : tie.Need-advance-requires
 advance-requires c κs = tt
 
 returns : tie.Need-returns
-returns c = let a = c .before .before .before .args in event-handed (a .p) (a .self) (Advance (a .job)) (c .before .advance .result) (c .before .advance .ensures)
+returns c =
+    let a = c .before .before .before .args in
+    let o = c .before .advance in
+    event-handed (a .p) (a .self) (Advance (a .job)) (o .result) (o .ensures)
 
 pub advance-spec : {M : Type 1} → statement M
 advance-spec = tie.close (tie.spec advance-requires returns)

@@ -7,7 +7,10 @@ drain-requires : tie.Need-drain-requires
 drain-requires c κs = tt
 
 returns : tie.Need-returns
-returns c = let a = c .before .before .before .args in drain-handed (a .p) (a .self) (a .budget) (c .before .drain .result) (c .before .drain .ensures)
+returns c =
+    let a = c .before .before .before .args in
+    let d = c .before .drain in
+    drain-handed (a .p) (a .self) (a .budget) (d .result) (d .ensures)
 
 pub drain-spec : {M : Type 1} → statement M
 drain-spec = tie.close (tie.spec drain-requires returns)

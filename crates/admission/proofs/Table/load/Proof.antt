@@ -8,7 +8,10 @@ load-requires : tie.Need-load-requires
 load-requires c κs = tt
 
 returns : tie.Need-returns
-returns c = let a = c .before .before .before .args in event-handed (a .p) (a .self) (Load (a .job) (a .kind)) (c .before .load .result) (c .before .load .ensures)
+returns c =
+    let a = c .before .before .before .args in
+    let o = c .before .load in
+    event-handed (a .p) (a .self) (Load (a .job) (a .kind)) (o .result) (o .ensures)
 
 pub load-spec : {M : Type 1} → statement M
 load-spec = tie.close (tie.spec load-requires returns)

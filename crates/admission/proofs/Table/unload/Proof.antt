@@ -8,7 +8,10 @@ unload-requires : tie.Need-unload-requires
 unload-requires c κs = tt
 
 returns : tie.Need-returns
-returns c = let a = c .before .before .before .args in event-handed (a .p) (a .self) (Unload (a .job)) (c .before .unload .result) (c .before .unload .ensures)
+returns c =
+    let a = c .before .before .before .args in
+    let o = c .before .unload in
+    event-handed (a .p) (a .self) (Unload (a .job)) (o .result) (o .ensures)
 
 pub unload-spec : {M : Type 1} → statement M
 unload-spec = tie.close (tie.spec unload-requires returns)

@@ -4,7 +4,7 @@ use Prim.Native.Nat.{ℕ, suc, _+_, _-_, _≤_, _<_}
 use native.Mathlib.Numerals.{add-one}
 use native.Mathlib.Omega.{arith}
 use mathlib.Core.Bool.{false}
-use mathlib.Core.List.{[]}
+use mathlib.Core.List.{List, []}
 use mathlib.Core.Logic.{⊎-elim}
 use mathlib.Core.Path.{_≡_, refl, sym, ap, subst, _∙_}
 use lib.ListN.{length, getD}
@@ -17,9 +17,10 @@ use Rattle.model.specs.declared.Plan.{Plan}
 use Rattle.model.specs.declared.Stage.{Stage}
 use Rattle.model.proofs.Arrays.{plan-stages}
 use Rattle.model.proofs.Flat.{index-within, stage-there}
-use Rattle.model.proofs.Search.{lowest-more, lowest-at}
+use Rattle.model.proofs.Search.{lowest-more}
 use Rattle.upstream.specs.Parts.{Stands, dueBy}
 use Rattle.upstream.specs.declared.position.Position.{Position}
+use Rattle.upstream.proofs.RowSearch.{fault-found}
 use Rattle.upstream.proofs.RowWalk.{dueTo, Walk, Next, wrong-row, walk-starts, walk-ends, next-type, next-stage, next-due, walk-on}
 use Rattle.upstream.proofs.rows.faulty_row.Statement.{statement}
 use Rattle.upstream.proofs.rows.faulty_row.Tie as tie
@@ -47,23 +48,27 @@ module _ (c : tie.Joined1 Inv-stages μ-stages Inv-rows μ-rows) where
   abbrev row : ℕ
   row = c .before .before .before .before .before .before .before .before .rows .row
 
+  abbrev at-stages : tie.At-stages Inv-stages μ-stages Inv-rows μ-rows
+  at-stages = c .before .before .before .before .before .before
+
   -- the index of the next stage
   abbrev i : ℕ
-  i = c .before .before .before .before .before .before .stages .index - 1
+  i = at-stages .stages .index - 1
 
-  more : c .before .before .before .before .before .before .stages .index ≡ suc i
+  more : at-stages .stages .index ≡ suc i
   more = omega (arith, c .before .before .before .before .before .stages-test .taken)
 
-  walk : Walk plan (suc row) (suc i) (c .before .before .before .before .before .before .stages .due)
-  walk = subst (λ (n : ℕ). Walk plan (suc row) n (c .before .before .before .before .before .before .stages .due)) more (c .before .before .before .before .before .before .stages .inv)
+  walk : Walk plan (suc row) (suc i) (at-stages .stages .due)
+  walk = subst (λ (n : ℕ). Walk plan (suc row) n (at-stages .stages .due)) more (at-stages .stages .inv)
 
   abbrev position : Position
   position = c .before .before .position-of .result
 
   stands : Stands (plan .lengths) (plan .types) (suc i) position
   stands =
-      subst (λ (n : ℕ). Stands (plan .lengths) n (suc i) position) (c .before .before .before .before .before .before .before .before .before .before .u8-to-usize2 .ensures .0)
-      (subst (λ (n : ℕ). Stands (plan .lengths) (c .before .before .before .before .before .before .before .before .before .before .u8-to-usize2 .result) n position) more (c .before .before .position-of .ensures))
+      let types = c .before .before .before .before .before .before .before .before .before .before .u8-to-usize2 in
+      let here = subst (λ (n : ℕ). Stands (plan .lengths) (types .result) n position) more (c .before .before .position-of .ensures) in
+      subst (λ (n : ℕ). Stands (plan .lengths) n (suc i) position) (types .ensures .0) here
 
   next : Next plan (suc row) i (c .if1 .due)
   next =
@@ -86,16 +91,19 @@ module _ (c : tie.Joined1 Inv-stages μ-stages Inv-rows μ-rows) where
   unfolding weightOf
   weight-is = rw stage-is refl
 
+due-same : (rank : List ℕ) (later : ℕ) {m n r q : ℕ} {s u : Stage} → m ≡ n → r ≡ q → s ≡ u
+    → dueBy m (s .demand) rank r later ≡ dueBy n (u .demand) rank q later
+due-same rank later e f g = rw (e, f, g) refl
+
 due-is : (c : tie.After-due-weight Inv-stages μ-stages Inv-rows μ-rows) →
     let j = c .before .before .before .before in
     c .due-weight .result ≡ dueTo (plan j) (suc (row j)) (next j .t) (next j .k)
 due-is c =
     let j = c .before .before .before .before in
-    let due : ℕ → ℕ → Stage → ℕ = λ n r s. dueBy n (s .demand) (plan j .rank) r (j .if1 .due) in
-    c .due-weight .ensures
-    ∙ ap (λ (n : ℕ). due n (row j + 1) (stage j)) (j .before .before .before .before .before .before .before .before .before .before .before .u8-to-usize .ensures .0)
-    ∙ ap (λ (r : ℕ). due (plan j .resources) r (stage j)) (add-one (row j))
-    ∙ ap (λ (s : Stage). due (plan j .resources) (suc (row j)) s) (sym (stage-is j))
+    let resources = j .before .before .before .before .before .before .before .before .before .before .before .u8-to-usize in
+    let given : c .due-weight .result ≡ dueBy (resources .result) (stage j .demand) (plan j .rank) (row j + 1) (j .if1 .due) = c .due-weight .ensures in
+    given
+    ∙ due-same (plan j .rank) (j .if1 .due) (resources .ensures .0) (add-one (row j)) (sym (stage-is j))
     ∙ sym (next-due (plan j) (suc (row j)) (next j))
 
 fault : (c : tie.Then2 Inv-stages μ-stages Inv-rows μ-rows) →
@@ -167,23 +175,16 @@ rows-again c =
     let right = walk-ends p r (subst (λ (n : ℕ). Walk p r n (c .before .stages .due)) end (c .before .stages .inv)) in
     (lowest-more _ (rows .row) (rows .inv .0) right, omega arith)
 
-add-result : tie.Need-add-result Inv-stages μ-stages Inv-rows μ-rows
-add-result c = search needs
+fault-number-requires : tie.Need-fault-number-requires Inv-stages μ-stages Inv-rows μ-rows
+fault-number-requires c κs = search needs
 
-cast-result : tie.Need-cast-result Inv-stages μ-stages Inv-rows μ-rows
-cast-result c = search needs
-
--- the loop was left at the fault: the row's last turn, from its start to the stage with the wrong weight
-returns : tie.Need-returns Inv-stages μ-stages Inv-rows μ-rows
-unfolding faultyRow
-returns c =
-    let rows = c .before .before .rows in
-    let p = c .before .before .before .before .before .before .args .t1 in
-    let one : rows .row < p .rows = omega (arith, c .before .before .before .u8-to-usize3 .ensures .0) in
-    let wrong : upstreamRow p (suc (rows .row)) ≡ false =
-    ⊎-elim (λ w. absurd (omega (arith, w .left, c .if3 .taken)))
+-- the row at which the loops were left is wrong: its last turn, from its start to the stage with the wrong weight
+left-wrong : (c : tie.Left-rows Inv-stages μ-stages Inv-rows μ-rows) → c .before .rows .row < c .before .before .u8-to-usize3 .result
+    → upstreamRow (c .before .before .before .before .before .args .t1) (suc (c .before .rows .row)) ≡ false
+left-wrong c more =
+    ⊎-elim (λ w. absurd (omega (arith, w .left, more)))
     (λ w.
-    let c0 : tie.In-rows Inv-stages μ-stages Inv-rows μ-rows = record { before = c .before .before; rows-test = w .0 } in
+    let c0 : tie.In-rows Inv-stages μ-stages Inv-rows μ-rows = record { before = c .before; rows-test = w .0 } in
     let c1 : tie.At-stages Inv-stages μ-stages Inv-rows μ-rows = record { before = c0; stages = w .1 } in
     let c2 : tie.In-stages Inv-stages μ-stages Inv-rows μ-rows = record { before = c1; stages-test = w .2 } in
     let c3 : tie.After-p Inv-stages μ-stages Inv-rows μ-rows = record { before = c2; p = w .3 } in
@@ -198,16 +199,17 @@ returns c =
     let c12 : tie.After-if22 Inv-stages μ-stages Inv-rows μ-rows = record { before = c11; if22 = w .12 } in
     let c13 : tie.Then2 Inv-stages μ-stages Inv-rows μ-rows = record { before = c12; if2 = w .13 } in
     fault c13)
-    (c .before .rows-test .came) in
-    sym (lowest-at (upstreamRow p) (p .rows) (rows .row) one (rows .inv .0) wrong)
+    (c .rows-test .came)
 
-returns-2 : tie.Need-returns-2 Inv-stages μ-stages Inv-rows μ-rows
+returns : tie.Need-returns Inv-stages μ-stages Inv-rows μ-rows
 unfolding faultyRow
-returns-2 c =
-    let rows = c .before .before .rows in
-    let p = c .before .before .before .before .before .before .args .t1 in
-    let end : rows .row ≡ p .rows = omega (arith, c .before .before .before .u8-to-usize3 .ensures .0) in
-    sym (subst (λ (n : ℕ). lowest n (upstreamRow p) ≡ 0) end (rows .inv .0))
+returns c =
+    let left = c .before in
+    let rows = left .before .before .u8-to-usize3 in
+    let p = left .before .before .before .before .before .args .t1 in
+    let inv = left .before .rows .inv in
+    fault-found (upstreamRow p) (rows .result) (left .before .rows .row) _ (inv .0) (inv .1) (left-wrong left) (c .fault-number .ensures)
+    ∙ ap (λ (n : ℕ). lowest n (upstreamRow p)) (rows .ensures .0)
 
 pub faulty-row-spec : {M : Type 1} → statement M
 faulty-row-spec =
@@ -233,7 +235,5 @@ faulty-row-spec =
     add-row
     rows-less
     rows-again
-    add-result
-    cast-result
-    returns
-    returns-2)
+    fault-number-requires
+    returns)

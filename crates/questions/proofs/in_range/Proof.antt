@@ -1,8 +1,8 @@
 -- Each way is one outcome of the two tests.
 use mathlib.Core.Path.{refl}
 use borrow.Author.Tests.{lt-leb, le-leb}
-use Rattle.admit.proofs.in_range.Statement.{statement}
-use Rattle.admit.proofs.in_range.Tie as tie
+use Rattle.questions.proofs.in_range.Statement.{statement}
+use Rattle.questions.proofs.in_range.Tie as tie
 
 returns : tie.Need-returns
 returns c = rw (lt-leb 1 _ (c .if1 .taken)) refl

@@ -9,8 +9,8 @@ use Rattle.model.specs.Numbers.{inRange}
 use Rattle.events.specs.Events.{isAdmitted}
 use Rattle.events.proofs.Tags.{refused-tag}
 use Rattle.parts.specs.Parts.{loadAnswer}
-use Rattle.admit.proofs.load_answer.Statement.{statement}
-use Rattle.admit.proofs.load_answer.Tie as tie
+use Rattle.questions.proofs.load_answer.Statement.{statement}
+use Rattle.questions.proofs.load_answer.Tie as tie
 
 -- the questions that were met where the code goes on
 module _ (c : tie.After-in-range2) where

@@ -1,0 +1,2 @@
+-- What an advance and an unload have in common.
+pub mod MoveOpening

@@ -1,0 +1,63 @@
+-- The answer is that of the parts: the agreement, where the search for the number ended, and the stage of the job found.
+use mathlib.Core.Bool.{cond}
+use mathlib.Core.Path.{_≡_, sym, ap, _∙_}
+use lib.Dec.{eqb, ltb}
+use Rattle.model.specs.Numbers.{at}
+use Rattle.model.specs.declared.Job.{Job}
+use Rattle.parts.specs.Parts.{stageMet, moveAnswer}
+use Rattle.parts.specs.declared.Found.{Found}
+use Rattle.admit.proofs.ask_move.Statement.{statement}
+use Rattle.admit.proofs.ask_move.Tie as tie
+
+agree-requires : tie.Need-agree-requires
+agree-requires c κs = tt
+
+look-up-requires : tie.Need-look-up-requires
+look-up-requires c κs = tt
+
+length-of-requires : tie.Need-length-of-requires
+length-of-requires c κs = tt
+
+stage-met-requires : tie.Need-stage-met-requires
+stage-met-requires c κs = tt
+
+move-answer-requires : tie.Need-move-answer-requires
+move-answer-requires c κs = tt
+
+module _ (c : tie.After-stage-met) where
+  abbrev searched : tie.After-look-up
+  searched = c .before .before .before .before .before
+
+  abbrev start : tie.Start
+  start = searched .before .before
+
+  -- question 17 of the job found
+  met : c .stage-met .result ≡ stageMet (start .args .p) (start .args .unloads) (searched .look-up .result .job)
+  met =
+      let j = searched .look-up .result .job in
+      c .stage-met .ensures
+      ∙ ap (λ l. cond (start .args .unloads) (eqb (j .stage) l) (ltb (j .stage) l)) (c .before .length-of .ensures)
+
+returns : tie.Need-returns
+returns c =
+    let m = c .before in
+    let a = start m .args in
+    let agrees = searched m .before .agree .ensures in
+    let found = searched m .look-up .ensures in
+    let met′ = met m ∙ ap (λ (f : Found). stageMet (a .p) (a .unloads) (f .job)) found in
+    record {
+      answer = c .move-answer .ensures ∙ (λ i. moveAnswer (agrees i .answer) (a .t .count) (found i .at) (a .job) (met′ i));
+      agreement = agrees;
+      found = found;
+    }
+
+pub ask-move-spec : {M : Type 1} → statement M
+ask-move-spec =
+    tie.close
+    (tie.spec
+    agree-requires
+    look-up-requires
+    length-of-requires
+    stage-met-requires
+    move-answer-requires
+    returns)
