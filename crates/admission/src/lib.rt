@@ -9,6 +9,7 @@ use events::JobList;
 use model::Job;
 use model::Plan;
 
+// Document 01's table. Any list may stand in it: whether it agrees with a plan is asked, not assumed.
 pub struct Table {
     pub list: JobList,
 }
@@ -51,6 +52,7 @@ impl Table {
         agreement::agree(p, list).answer
     }
 
+    // The events. A refusal hands back the same table.
     pub fn load(self, p: Plan, job: u32, kind: u32) -> Outcome
         ensures { λ r. ⌜ r ≡ outcome p self (Event.Load job kind) ⌝ }
     {
@@ -90,6 +92,7 @@ impl Table {
         }
     }
 
+    // Moves of the earliest loaded job for which one is admitted, as long as there is budget.
     pub fn drain(self, p: Plan, budget: u32) -> Drained
         ensures { λ r. ⌜ r ≡ drain p self budget ⌝ }
     {

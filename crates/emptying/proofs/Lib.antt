@@ -1,3 +1,3 @@
 -- The laws of the ledger and of runs, and the emptying theorem. Read in this order.
-pub mod Ledgers
-pub mod Emptied
+pub mod Ledger
+pub mod Emptying

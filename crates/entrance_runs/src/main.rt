@@ -7,7 +7,7 @@
 //   +              the same, but goes on from what is set    :      only writes the rest of its line
 //   l a u d q e r  ask, in ask.rt             m      loads many jobs    f      the stage of the earliest loaded
 //
-// Nothing is asked of what is set: a number is taken modulo what its place holds, and a place modulo its array. A missing
+// Nothing is asked of what is set: a number is taken modulo what its field holds, and an index modulo its array. A missing
 // number is 0, and a line with another letter does nothing. Input beyond 65,536 bytes is not read.
 mod ask;
 mod line;

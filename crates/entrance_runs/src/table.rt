@@ -27,7 +27,7 @@ fn with_count(t: JobList, n: u32) -> JobList {
     next
 }
 
-// The place counts from 1; the count of jobs stays.
+// The slot counts from 1; the count of jobs stays.
 fn with_job(t: JobList, at: u32, number: u32, kind: u32, stage: u32) -> JobList {
     let i = (at as usize + 63) % 64;
     let mut next = t;
@@ -39,7 +39,7 @@ fn with_job(t: JobList, at: u32, number: u32, kind: u32, stage: u32) -> JobList 
     next
 }
 
-// J place number type stage; N jobs.
+// J slot number type stage; N jobs.
 pub(crate) fn with(t: Table, letter: u8, x: u32, y: u32, z: u32, w: u32) -> Table {
     let l = t.list;
     match letter {
@@ -70,7 +70,7 @@ fn same_job(a: Job, b: Job) -> bool {
     (a.number == b.number) & (a.kind == b.kind) & (a.stage == b.stage)
 }
 
-// Are they the same in every place, those beyond the count too?
+// Are they the same in every slot, those beyond the count too?
 pub(crate) fn same(a: Table, b: Table) -> bool {
     let a = a.list;
     let b = b.list;

@@ -1,21 +1,18 @@
 -- A table that agrees with a plan is the table of its jobs, so what is proved of lists of jobs holds of tables.
 use Prim.Native.Nat.{ℕ, zero, suc, _+_, _-_, _≤_, _<_}
 use native.Mathlib.Omega.{arith}
-use mathlib.Core.Bool.{true, _&&_, and-assoc}
 use mathlib.Core.List.{List, [], _∷_, _++_}
 use mathlib.Core.Path.{_≡_, refl, sym, ap, _∙_}
 use lib.ListN.{length, drop, replicate, getD, length-append, length-drop, length-replicate, take-append-drop}
 use lib.Seq.{take-append-seam, length-take-le, ext-getD, getD-drop}
 use Rattle.model.specs.Limits.{maxJobs}
-use lib.Dec.{eqb}
-use borrow.Author.Tests.{eq-eqb}
-use Rattle.model.specs.Numbers.{entry, Each, Distinct}
-use Rattle.model.specs.Jobs.{noJob, exceeded, broken, numbers, Numbered, AtStage, Agreeing, agreeing}
+use Rattle.model.specs.Numbers.{entry}
+use Rattle.model.specs.Jobs.{noJob, Agreeing}
 use Rattle.model.specs.declared.Plan.{Plan}
 use Rattle.model.specs.declared.Job.{Job}
-use Rattle.model.proofs.Decide.{Decides, holds, decides-iff, _and_, decides-le, decides-eq, decides-each, decides-beyond}
-use Rattle.model.proofs.Lists.{replicated, each-map}
-use Rattle.model.proofs.Jobs.{decides-distinct, decides-fits, decides-agreeing}
+use Rattle.model.proofs.Decide.{Decides, decides-iff, _and_, decides-le, decides-eq, decides-beyond}
+use Rattle.model.proofs.Lists.{replicated}
+use Rattle.model.proofs.Jobs.{decides-agreeing}
 use Rattle.events.specs.JobList.{jobsOf, listOf, Agrees, isNoJob, agrees}
 use Rattle.events.specs.declared.JobList.{JobList}
 

@@ -7,7 +7,7 @@ use mathlib.Core.Logic.{_⊎_, inl, inr}
 use mathlib.Core.Path.{_≡_, refl, ap}
 use mathlib.Core.List.{List, [], _∷_, _++_, map}
 use lib.ListN.{length, take, getD, replicate}
-use Rattle.model.specs.Numbers.{entry, Each, Split}
+use Rattle.model.specs.Numbers.{Each, Split}
 use Rattle.model.proofs.Decide.{decides-le, decided}
 
 module _ {A : Type 0} (P : A → Type 0) where
@@ -80,11 +80,6 @@ pub entry-there : {A : Type 0} (xs : List A) (i : ℕ) (d e : A) → i < length 
 entry-there [] i d e h = absurd (omega arith)
 entry-there (x ∷ xs) zero d e h = refl
 entry-there (x ∷ xs) (suc i) d e h = entry-there xs i d e (omega arith)
-
--- entry number n of a list, as the definitions read it, is the one at index n - 1
-pub entry-getD : {A : Type 0} (xs : List A) (n i : ℕ) (d e : A) → i + 1 ≡ n → i < length xs → entry xs n e ≡ getD xs i d
-entry-getD xs zero i d e h room = absurd (omega arith)
-entry-getD xs (suc n) i d e h room = let same : n ≡ i = omega arith in rw same (entry-there xs i e d room)
 
 module _ {A : Type 0} (P : A → Type 0) where
   -- what holds of everything holds of each entry

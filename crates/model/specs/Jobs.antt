@@ -105,7 +105,7 @@ advancedAt p s = s .before ++ advancedJob p (s .item) ∷ s .after
 abbrev pub removedAt : {js : List Job} → Split js → List Job
 removedAt s = s .before ++ s .after
 
--- the same, computed by the job's number: a load comes last, an advance keeps its place, an unload closes the gap
+-- the same, computed by the job's number: a load comes last, an advance keeps its position, an unload closes the gap
 abbrev pub loaded : ℕ → ℕ → List Job → List Job
 loaded n t js = js ++ loadedJob n t ∷ []
 

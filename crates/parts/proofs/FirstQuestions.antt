@@ -1,28 +1,24 @@
 -- The first two questions as the code asks them: soundness, what needs no sums, and then the sums against their ceilings;
 -- what is handed on is what the definition says.
-use Prim.Native.Nat.{ℕ, _≤_, _<_}
-use mathlib.Core.Bool.{Bool, true, false, cond, _&&_, and-assoc, false≢true}
+use Prim.Native.Nat.{ℕ}
+use mathlib.Core.Bool.{Bool, true, false, cond, _&&_, and-assoc}
 use mathlib.Core.Logic.{⊎-elim}
 use mathlib.Core.Path.{_≡_, refl, sym, ap, _∙_}
 use lib.Dec.{eqb}
 use lib.ListN.{length}
 use borrow.Author.Tests.{eq-eqb}
 use Rattle.model.specs.Limits.{maxJobs}
-use Rattle.model.specs.Numbers.{entry, Each, Distinct}
 use Rattle.model.specs.Plan.{noStage}
-use Rattle.model.specs.Jobs.{noJob, exceeded, broken, numbers, Numbered, AtStage, agreeing}
+use Rattle.model.specs.Jobs.{exceeded, broken, agreeing}
 use Rattle.model.specs.Soundness.{Sound, sound}
 use Rattle.model.specs.declared.Plan.{Plan}
-use Rattle.model.specs.declared.Job.{Job}
-use Rattle.model.proofs.Decide.{Decides, holds, passes, _and_, decides-le, decides-each, decides-beyond}
-use Rattle.model.proofs.Jobs.{decides-distinct, decides-fits}
+use Rattle.model.proofs.Decide.{passes, _and_}
 use Rattle.model.proofs.Soundness.{decides-sound}
 use Rattle.events.specs.JobList.{jobsOf, agrees}
 use Rattle.events.specs.Events.{agreement, isAdmitted, keptAnswer}
 use Rattle.events.specs.declared.JobList.{JobList}
 use Rattle.events.specs.declared.Answer.{Answer}
 use Rattle.events.specs.declared.Answer.the-variants.{Admitted, UnsoundPlan, Disagreement, OverCapacity, RowBroken}
-use Rattle.events.proofs.JobLists.{decides-no-job}
 use Rattle.events.proofs.Answers.{admitted-or-not}
 use Rattle.parts.specs.Parts.{sumsOf, ceilingsOf, keptAfter, wellFormed, agreedWith, refusedWith, agreed}
 use Rattle.parts.specs.declared.Agreement.{Agreement}
@@ -30,18 +26,6 @@ use Rattle.parts.proofs.SumsAfter.{none-exchanged, kept-exchanged}
 
 -- agreement in the parts that the code asks it in
 module _ (p : Plan) (t : JobList) where
-  Formed : Type 0
-  Formed =
-      ((t .count ≤ maxJobs) × ((i : ℕ) → t .count < i → entry (t .jobs) i noJob ≡ noJob))
-      × (Each (λ (j : Job). Numbered j × AtStage p j) (jobsOf t) × Distinct (numbers (jobsOf t)))
-
-  decides-formed : Decides Formed (wellFormed (p .types) (p .lengths) t)
-  unfolding wellFormed Formed
-  decides-formed =
-      decides-le (t .count) maxJobs
-      and decides-beyond decides-no-job noJob refl (t .count) (t .jobs)
-      and (decides-each (decides-fits p) (jobsOf t) and decides-distinct (numbers (jobsOf t)))
-
   agrees-by-parts : length (t .jobs) ≡ maxJobs
       → agrees p t ≡ (wellFormed (p .types) (p .lengths) t && (eqb (exceeded p (jobsOf t)) 0 && eqb (broken p (jobsOf t)) 0))
   unfolding agrees agreeing wellFormed

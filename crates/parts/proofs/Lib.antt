@@ -1,7 +1,7 @@
 -- The laws that join the code to the definitions. Read in this order.
-pub mod Lanes
+pub mod FixedWidth
 pub mod StageIndex
-pub mod Tallies
+pub mod SumsPass
 pub mod SumsAfter
 pub mod ClosingGap
 pub mod Positions

@@ -5,9 +5,9 @@ use native.Mathlib.Numerals.{add-one}
 use native.Mathlib.Omega.{arith}
 use mathlib.Core.Bool.{true}
 use mathlib.Core.List.{List, [], _∷_, _++_, append-assoc}
-use mathlib.Core.Path.{_≡_, refl, sym, ap, _∙_}
+use mathlib.Core.Path.{_≡_, sym, ap, _∙_}
 use borrow.Author.Tests.{ltb-true, lt-ltb, le-leb}
-use lib.ListN.{length, take, drop, set, getD, replicate, length-append, length-take, length-drop, length-set, replicate-append-replicate}
+use lib.ListN.{length, take, drop, set, replicate, length-append, length-take, length-drop, length-set, replicate-append-replicate}
 use lib.Seq.{length-take-le, set-at, set-append-left, take-append-le, drop-append-le}
 use Rattle.model.specs.Limits.{maxJobs}
 use Rattle.model.specs.Jobs.{noJob, isActive, jobOf, advancedJob, advanced, unloaded}

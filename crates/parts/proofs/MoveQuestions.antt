@@ -1,6 +1,6 @@
 -- A move of the job that a number names: the refusals up to question 14, and what is answered once the number is active. A
 -- number names one job of an agreeing list, so the job found is the one that the model splits the list at.
-use Prim.Native.Nat.{ℕ, _+_, _≤_, _<_}
+use Prim.Native.Nat.{ℕ, _+_}
 use mathlib.Core.Bool.{Bool, true, false, cond, false≢true}
 use mathlib.Core.List.{List, [], _∷_, _++_}
 use mathlib.Core.Logic.{_≢_}
@@ -10,7 +10,7 @@ use Rattle.model.specs.Limits.{maxNumber}
 use Rattle.model.specs.Numbers.{inRange}
 use Rattle.model.specs.Questions.{Question, ask, answerOf}
 use Rattle.model.specs.Plan.{lengthOf, stageOf}
-use Rattle.model.specs.Jobs.{exceeded, broken, Active, isActive, jobOf, HasNext, IsLast, hasNext, isLast, advancedAt, advanced, unloaded, AtStage}
+use Rattle.model.specs.Jobs.{exceeded, broken, Active, isActive, jobOf, HasNext, IsLast, hasNext, advancedAt, advanced, AtStage}
 use Rattle.model.specs.Soundness.{Sound}
 use Rattle.model.specs.declared.Plan.{Plan}
 use Rattle.model.specs.declared.Stage.{Stage}

@@ -9,7 +9,7 @@ use mathlib.Core.Path.{_≡_, refl, sym, ap, _∙_}
 use borrow.Author.Tests.{ltb-true, ltb-false, lt-ltb, le-ltb, eq-eqb, ne-eqb}
 use lib.Dec.{ltb}
 use lib.ListN.{length, take, drop, set, getD, length-take, drop-of-length-le}
-use lib.Seq.{drop-cons, length-take-le}
+use lib.Seq.{drop-cons}
 use Rattle.model.specs.Limits.{maxJobs}
 use Rattle.model.specs.Jobs.{noJob, hasNumber, isActive, jobOf, advancedJob, advanced, unloaded}
 use Rattle.model.specs.declared.Plan.{Plan}
@@ -96,17 +96,3 @@ module _ (n : ℕ) where
 -- as many jobs as the count says, where there are slots for them
 pub jobs-there : (t : JobList) → length (t .jobs) ≡ maxJobs → length (jobsOf t) ≡ min (t .count) maxJobs
 jobs-there t whole = rw (← whole) (length-take (t .count) (t .jobs))
-
--- the position that the code finds tells whether the number is active
-module _ (t : JobList) (whole : length (t .jobs) ≡ maxJobs) (few : t .count ≤ maxJobs) where
-  pub count-jobs : length (jobsOf t) ≡ t .count
-  count-jobs = length-take-le (t .count) (t .jobs) (omega arith)
-
-  module _ (n position : ℕ) (found : position ≡ positionOf n (jobsOf t)) where
-    pub active-there : position < t .count → isActive n (jobsOf t) ≡ true
-    active-there h =
-        position-active n (jobsOf t) ∙ lt-ltb (positionOf n (jobsOf t)) (length (jobsOf t)) (omega (arith, count-jobs))
-
-    pub inactive : t .count ≤ position → isActive n (jobsOf t) ≡ false
-    inactive h =
-        position-active n (jobsOf t) ∙ le-ltb (positionOf n (jobsOf t)) (length (jobsOf t)) (omega (arith, count-jobs))

@@ -1,16 +1,16 @@
 -- Questions asked in parts: a list of questions answers as its first part does where that refuses, and else as the rest
 -- does. So an entrance may ask an event's questions group by group and return at the first refusal.
-use Prim.Native.Nat.{ℕ, _≤_}
+use Prim.Native.Nat.{ℕ}
 use mathlib.Core.Bool.{Bool, true, false, cond, false≢true}
 use mathlib.Core.List.{List, [], _∷_, _++_}
 use mathlib.Core.Logic.{⊎-elim}
 use mathlib.Core.Path.{_≡_, refl, sym, ap, _∙_}
 use lib.Dec.{ltb}
 use lib.ListN.{length}
-use Rattle.model.specs.Limits.{maxNumber, maxJobs}
+use Rattle.model.specs.Limits.{maxNumber}
 use Rattle.model.specs.Numbers.{inRange, Each}
 use Rattle.model.specs.Jobs.{isActive}
-use Rattle.model.specs.Questions.{Question, ask, answerOf}
+use Rattle.model.specs.Questions.{Question, answerOf}
 use Rattle.model.specs.Soundness.{Sound}
 use Rattle.model.specs.declared.Plan.{Plan}
 use Rattle.model.specs.declared.Job.{Job}
@@ -77,9 +77,6 @@ module _ (p : Plan) (t : JobList) where
   pub met-agreement : Sound p → Agrees p t → agreement p t ≡ Admitted
   met-agreement s k = is-admitted (agreement p t) (agreement-met s k)
 
-  pub agreed-few : (first : Answer) → first ≡ agreement p t → isAdmitted first ≡ true → t .count ≤ maxJobs
-  agreed-few first opens h = agreement-holds (sym (ap isAdmitted opens) ∙ h) .1 .few
-
   module _ (e : Event) where
     first-refused : isAdmitted (agreement p t) ≡ false → answer p t e ≡ agreement p t
     unfolding answer agreement
@@ -137,7 +134,7 @@ module _ (p : Plan) (t : JobList) where
 
 -- 13 and 14 of a move
 module _ (js : List Job) (n : ℕ) where
-  pub name-refuses : Refusing (nameQuestions js n)
+  name-refuses : Refusing (nameQuestions js n)
   name-refuses = (refl, (refl, tt))
 
   -- where they are met the number is active

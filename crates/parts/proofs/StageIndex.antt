@@ -19,7 +19,7 @@ use Rattle.model.proofs.Flat as flat
 use Rattle.model.proofs.Flat.{flatIndex}
 use Rattle.model.proofs.Lists.{entry-there}
 use Rattle.parts.specs.Parts.{stageIndex, indexIn}
-use Rattle.parts.proofs.Lanes.{at-named}
+use Rattle.parts.proofs.FixedWidth.{at-named}
 
 module _ (lengths : List ℕ) (types t k : ℕ) where
   is-stage : Decides (InRange t types × InRange k (at lengths t)) (inRange t types && inRange k (at lengths t))

@@ -6,26 +6,26 @@ use native.Mathlib.Omega.{arith}
 use mathlib.Core.Bool.{Bool, true, cond}
 use mathlib.Core.List.{List, [], _∷_, _++_}
 use mathlib.Core.Logic.{_⊎_, inl, inr, ⊎-elim}
-use mathlib.Core.Path.{_≡_, refl, sym, ap, ap₂, subst, _∙_}
-use lib.Dec.{leb, eqb}
+use mathlib.Core.Path.{_≡_, refl, ap, ap₂, _∙_}
+use lib.Dec.{leb}
 use lib.ListN.{replicate}
-use borrow.Author.Tests.{eq-eqb, ne-eqb, le-leb}
+use borrow.Author.Tests.{le-leb}
 use Rattle.model.specs.Limits.{maxResources, maxRows}
-use Rattle.model.specs.Numbers.{InRange, inRange, entry, at, sumTo, lowest, Each, Split}
+use Rattle.model.specs.Numbers.{InRange, entry, at, sumTo, lowest, Split}
 use Rattle.model.specs.Plan.{noStage, lengthOf, IsStage, isStage, stageOf, demandOf, weightOf}
 use Rattle.model.specs.Jobs.{overJobs, exceeded, broken, advancedJob, advancedAt}
 use Rattle.model.specs.Soundness.{Sound}
 use Rattle.model.specs.declared.Plan.{Plan}
 use Rattle.model.specs.declared.Stage.{Stage}
 use Rattle.model.specs.declared.Job.{Job}
-use Rattle.model.proofs.Decide.{Decides, holding, failing, decided, decides-le, decides-range, _and_}
+use Rattle.model.proofs.Decide.{Decides, holding, failing, decides-range, _and_}
 use Rattle.model.proofs.Lists.{replicated, every-each}
 use Rattle.model.proofs.Sums.{over-jobs-append, over-jobs-moved, over-jobs-removed, over-jobs-zero}
 use Rattle.events.specs.Events.{keptAnswer}
 use Rattle.parts.specs.Parts.{tabulate, sumsOf, ceilingsOf, lowestAfter, keptAfter}
 use Rattle.parts.specs.declared.Sums.{Sums}
 use Rattle.parts.specs.declared.Ceilings.{Ceilings}
-use Rattle.parts.proofs.Lanes.{at-tabulate, lowest-lanes}
+use Rattle.parts.proofs.FixedWidth.{at-tabulate, lowest-lanes}
 
 -- no amount where there is no stage
 nothing : (n i : ℕ) → at (replicate n 0) i ≡ 0

@@ -1,6 +1,6 @@
 -- A run's table and count are those of the emptying theorem by their definitions, so its rule is the theorem's.
 use mathlib.Core.Path.{refl}
-use Rattle.emptying.proofs.Emptied.{emptying-theorem}
+use Rattle.emptying.proofs.Emptying.{emptying-theorem}
 use Rattle.runs.specs.RunRule.{RunTheorem}
 
 pub run-theorem : RunTheorem

@@ -3,7 +3,6 @@ use Prim.Native.Nat.{_+_, _<_}
 use native.Mathlib.Omega.{arith}
 use mathlib.Core.Bool.{true}
 use mathlib.Core.Path.{_≡_, refl, sym, ap, subst⁻¹, _∙_}
-use lib.ListN.{length}
 use borrow.Author.Needs.{needs}
 use borrow.Author.Tests.{ltb-true}
 use Rattle.model.specs.Limits.{maxAllStages}
@@ -18,7 +17,7 @@ use Rattle.events.specs.Events.{isAdmitted, answer}
 use Rattle.events.specs.declared.JobList.{JobList}
 use Rattle.events.specs.declared.Event.{Event}
 use Rattle.events.specs.declared.Event.the-variants.{Advance}
-use Rattle.events.proofs.Tags.{refused-tag}
+use Rattle.events.proofs.AnswerTags.{refused-tag}
 use Rattle.parts.specs.Parts.{withReplaced}
 use Rattle.parts.specs.declared.Agreement.{Agreement}
 use Rattle.parts.proofs.StageIndex.{from-within, to-within, old-read, new-read}

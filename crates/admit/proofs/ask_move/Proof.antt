@@ -1,9 +1,8 @@
 -- The answer is that of the parts: the agreement, where the search for the number ended, and the stage of the job found.
 use mathlib.Core.Bool.{cond}
-use mathlib.Core.Path.{_≡_, sym, ap, _∙_}
+use mathlib.Core.Path.{_≡_, ap, _∙_}
 use lib.Dec.{eqb, ltb}
 use Rattle.model.specs.Numbers.{at}
-use Rattle.model.specs.declared.Job.{Job}
 use Rattle.parts.specs.Parts.{stageMet, moveAnswer}
 use Rattle.parts.specs.declared.Found.{Found}
 use Rattle.admit.proofs.ask_move.Statement.{statement}

@@ -16,7 +16,7 @@ use Rattle.events.specs.declared.JobList.{JobList}
 use Rattle.events.specs.declared.Answer.{Answer}
 use Rattle.events.specs.declared.Event.{Event}
 use Rattle.events.specs.declared.Event.the-variants.{Load}
-use Rattle.events.proofs.Tags.{refused-tag}
+use Rattle.events.proofs.AnswerTags.{refused-tag}
 use Rattle.parts.specs.Parts.{sumsOf, ceilingsOf, positionOf, loadAnswer, agreedWith, agreed}
 use Rattle.parts.specs.declared.Agreement.{Agreement}
 use Rattle.parts.proofs.StageIndex.{index-within, stage-read}

@@ -3,11 +3,9 @@ use mathlib.Core.Bool.{true}
 use mathlib.Core.Path.{_≡_, sym, ap, _∙_}
 use borrow.Author.Needs.{needs}
 use borrow.Author.Tests.{eqb-true}
-use Rattle.model.specs.declared.Plan.{Plan}
 use Rattle.events.specs.Events.{isAdmitted}
-use Rattle.events.specs.declared.JobList.{JobList}
 use Rattle.events.specs.declared.Event.the-variants.{Unload}
-use Rattle.events.proofs.Tags.{refused-tag}
+use Rattle.events.proofs.AnswerTags.{refused-tag}
 use Rattle.parts.specs.Parts.{withoutJob}
 use Rattle.parts.proofs.ListChanges.{unloaded-list}
 use Rattle.parts.proofs.QuestionParts.{admitted-outcome}

@@ -12,7 +12,7 @@ use Rattle.events.specs.JobList.{jobsOf}
 use Rattle.events.specs.Events.{isAdmitted}
 use Rattle.events.specs.declared.JobList.{JobList}
 use Rattle.events.proofs.Arrays.{list-slots}
-use Rattle.events.proofs.Tags.{refused-tag}
+use Rattle.events.proofs.AnswerTags.{refused-tag}
 use Rattle.parts.specs.Parts.{sumsOf, ceilingsOf, keptAfter, wellFormed, agreedWith}
 use Rattle.parts.proofs.FirstQuestions.{agreed-unsound, agreed-unformed, agreed-exceeded, agreed-kept}
 use Rattle.agreement.proofs.agree.Statement.{statement}

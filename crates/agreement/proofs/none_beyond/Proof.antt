@@ -1,4 +1,4 @@
--- What the places from i on say is what all beyond the jobs say.
+-- What the slots from i on say is what all beyond the jobs say.
 use Prim.Native.Nat.{ℕ, _+_, _-_}
 use mathlib.Core.Bool.{Bool, true, false, _&&_}
 use mathlib.Core.Path.{_≡_, refl, sym, _∙_}
@@ -33,7 +33,7 @@ element-copy-out-j c = search needs
 is-none-requires : tie.Need-is-none-requires Inv-loop μ-loop
 is-none-requires c κs = tt
 
--- at one place: what is said from it on is what it says, and what is said from the next on
+-- at one slot: what is said from it on is what it says, and what is said from the next on
 module _ (c : tie.After-is-none Inv-loop μ-loop) where
   abbrev turn : tie.At-loop Inv-loop μ-loop
   turn = c .before .before .before

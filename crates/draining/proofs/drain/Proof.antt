@@ -6,7 +6,7 @@ use mathlib.Core.Path.{_≡_, sym, ap, _∙_}
 use borrow.Author.Needs.{needs}
 use Rattle.events.specs.Events.{isAdmitted, agreement}
 use Rattle.events.specs.declared.Answer.the-variants.{Admitted, UnsoundPlan}
-use Rattle.events.proofs.Tags.{other-tag, not-admitted}
+use Rattle.events.proofs.AnswerTags.{other-tag, not-admitted}
 use Rattle.parts.specs.declared.Agreement.{Agreement}
 use Rattle.parts.proofs.QuestionParts.{agreement-holds}
 use Rattle.parts.proofs.FirstQuestions.{agreed-answer, agreed-met}

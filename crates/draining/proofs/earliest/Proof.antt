@@ -16,7 +16,7 @@ use Rattle.events.specs.JobList.{jobsOf, Agrees}
 use Rattle.events.specs.Events.{isAdmitted, answer}
 use Rattle.events.specs.Drain.{moveOf}
 use Rattle.events.specs.declared.JobList.{JobList}
-use Rattle.events.proofs.Tags.{refused-tag}
+use Rattle.events.proofs.AnswerTags.{refused-tag}
 use Rattle.parts.specs.Parts.{firstMovable}
 use Rattle.parts.proofs.StageIndex.{from-within, to-within, old-read, new-read}
 use Rattle.parts.proofs.SumsAfter.{kept-same}

@@ -7,7 +7,7 @@ use borrow.Author.Tests.{not-true, not-false}
 use Rattle.model.specs.Limits.{maxNumber, maxJobs}
 use Rattle.model.specs.Numbers.{inRange}
 use Rattle.events.specs.Events.{isAdmitted}
-use Rattle.events.proofs.Tags.{refused-tag}
+use Rattle.events.proofs.AnswerTags.{refused-tag}
 use Rattle.parts.specs.Parts.{loadAnswer}
 use Rattle.questions.proofs.load_answer.Statement.{statement}
 use Rattle.questions.proofs.load_answer.Tie as tie

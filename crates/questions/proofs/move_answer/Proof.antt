@@ -6,7 +6,7 @@ use borrow.Author.Tests.{not-true, not-false, lt-ltb, le-ltb}
 use Rattle.model.specs.Limits.{maxNumber}
 use Rattle.model.specs.Numbers.{inRange}
 use Rattle.events.specs.Events.{isAdmitted}
-use Rattle.events.proofs.Tags.{refused-tag}
+use Rattle.events.proofs.AnswerTags.{refused-tag}
 use Rattle.parts.specs.Parts.{moveAnswer}
 use Rattle.questions.proofs.move_answer.Statement.{statement}
 use Rattle.questions.proofs.move_answer.Tie as tie

@@ -3,7 +3,7 @@ use mathlib.Core.Path.{_≡_, refl, sym, _∙_}
 use native.Mathlib.Omega.{arith}
 use borrow.Author.Needs.{needs}
 use lib.ListN.{length}
-use Rattle.parts.proofs.Lanes.{at-position, at-beyond}
+use Rattle.parts.proofs.FixedWidth.{at-position, at-beyond}
 use Rattle.stages.proofs.entry.Statement.{statement}
 use Rattle.stages.proofs.entry.Tie as tie
 

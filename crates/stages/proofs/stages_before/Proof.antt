@@ -5,7 +5,7 @@ use native.Mathlib.Omega.{arith}
 use borrow.Author.Needs.{needs}
 use lib.ListN.{length}
 use Rattle.model.specs.Numbers.{at, sumTo}
-use Rattle.parts.proofs.Lanes.{sum-beyond, sum-last}
+use Rattle.parts.proofs.FixedWidth.{sum-beyond, sum-last}
 use Rattle.stages.proofs.stages_before.Statement.{statement}
 use Rattle.stages.proofs.stages_before.Tie as tie
 

@@ -5,7 +5,7 @@ use mathlib.Core.Path.{_≡_, refl, _∙_}
 use borrow.Author.Needs.{needs}
 use lib.ListN.{length, length-set}
 use Rattle.model.specs.Numbers.{InRange, at}
-use Rattle.parts.proofs.Lanes.{fill-more, set-behind}
+use Rattle.parts.proofs.FixedWidth.{fill-more, set-behind}
 use Rattle.sums.proofs.add.Statement.{statement}
 use Rattle.sums.proofs.add.Tie as tie
 

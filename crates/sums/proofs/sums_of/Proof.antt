@@ -12,7 +12,7 @@ use Rattle.model.proofs.Arrays.{plan-stages}
 use Rattle.events.specs.declared.JobList.{JobList}
 use Rattle.events.proofs.Arrays.{list-slots}
 use Rattle.parts.proofs.StageIndex.{stage-there, stage-nowhere}
-use Rattle.parts.proofs.Tallies.{Passed, few-yet, passed-none, passed-nothing, passed-more, passed-all}
+use Rattle.parts.proofs.SumsPass.{Passed, few-yet, passed-none, passed-nothing, passed-more, passed-all}
 use Rattle.sums.proofs.sums_of.Statement.{statement}
 use Rattle.sums.proofs.sums_of.Tie as tie
 

@@ -31,7 +31,7 @@ use Rattle.events.specs.declared.Answer.the-variants.{Admitted}
 use Rattle.events.proofs.JobLists.{agreeing-list}
 use Rattle.events.proofs.Answers.{admitted-or-not, admitted-holds, list-refused}
 use Rattle.events.proofs.Moves.{move-count, job-moves, movable-job}
-use Rattle.emptying.proofs.Ledgers.{Consistent, jobs-of-ledger, stateAfter, stays-consistent}
+use Rattle.emptying.proofs.Ledger.{Consistent, jobs-of-ledger, stateAfter, stays-consistent}
 
 -- no job agrees with any plan
 none-agreeing : (p : Plan) → Agreeing p []

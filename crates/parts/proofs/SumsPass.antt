@@ -22,7 +22,7 @@ use Rattle.events.specs.JobList.{jobsOf}
 use Rattle.events.specs.declared.JobList.{JobList}
 use Rattle.parts.specs.Parts.{tabulate, Few, Added, sumsOf, noSums}
 use Rattle.parts.specs.declared.Sums.{Sums}
-use Rattle.parts.proofs.Lanes.{tabulated}
+use Rattle.parts.proofs.FixedWidth.{tabulated}
 
 -- 63 stages of 255 at most
 pub few-yet : {i : ℕ} {amounts : List ℕ} → i < maxJobs → Few (i * 255) amounts → Few 16065 amounts
