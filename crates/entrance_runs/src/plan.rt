@@ -1,4 +1,4 @@
-// Plans set value by value, without asking anything. Places count from 1, as in document 01, and stages all types together.
+// Plans set value by value, without asking anything. Numbers count from 1, as in document 01, and stages all types together.
 use model::Plan;
 use model::Stage;
 use plans::empty_plan;

@@ -1,4 +1,4 @@
--- Closing a gap in a list entry by entry: before position i the entries have moved up by one, and from i on they stand as they
+-- Closing a gap in a list entry by entry: before position i the entries stand one lower, and from i on they stand as they
 -- did.
 use Prim.Native.Nat.{ℕ, suc, _+_, _-_, _≤_, _<_}
 use native.Mathlib.Numerals.{add-one}
@@ -9,39 +9,39 @@ use lib.ListN.{length, take, drop, set, getD, length-append, length-take, length
 use lib.Seq.{drop-cons, take-suc, getD-drop, set-at, take-all}
 
 module _ {A : Type 0} (xs : List A) (gap : ℕ) (d : A) where
-  moved : ℕ → List A
-  moved i = take gap xs ++ take (i - gap) (drop (suc gap) xs)
+  shifted : ℕ → List A
+  shifted i = take gap xs ++ take (i - gap) (drop (suc gap) xs)
 
   unfoldable pub closedTo : ℕ → List A
-  unfolding moved
-  closedTo i = moved i ++ drop i xs
+  unfolding shifted
+  closedTo i = shifted i ++ drop i xs
 
   pub closed-none : closedTo gap ≡ xs
-  unfolding closedTo moved
+  unfolding closedTo shifted
   closed-none = let e : gap - gap ≡ 0 = omega arith in rw (e, append-nil (take gap xs)) (take-append-drop gap xs)
 
   module _ (i : ℕ) (from : gap ≤ i) (room : i < length xs) where
-    moved-length : length (moved i) ≡ i
-    unfolding moved
-    moved-length =
+    shifted-length : length (shifted i) ≡ i
+    unfolding shifted
+    shifted-length =
         length-append (take gap xs) (take (i - gap) (drop (suc gap) xs))
         ∙ omega (arith, length-take gap xs, length-take (i - gap) (drop (suc gap) xs), length-drop (suc gap) xs)
 
-    set-moved : (a : A) → set (closedTo i) i a ≡ moved i ++ a ∷ drop (suc i) xs
+    set-shifted : (a : A) → set (closedTo i) i a ≡ shifted i ++ a ∷ drop (suc i) xs
     unfolding closedTo
-    set-moved a = rw (drop-cons xs i d) (set-at (moved i) (getD xs i d) (drop (suc i) xs) a i moved-length)
+    set-shifted a = rw (drop-cons xs i d) (set-at (shifted i) (getD xs i d) (drop (suc i) xs) a i shifted-length)
 
     pub closed-more : suc i < length xs → set (closedTo i) i (getD xs (i + 1) d) ≡ closedTo (i + 1)
-    unfolding closedTo moved
+    unfolding closedTo shifted
     closed-more more =
         let step : i + 1 - gap ≡ suc (i - gap) = omega arith in
         let there : suc gap + (i - gap) ≡ suc i = omega arith in
-        set-moved (getD xs (i + 1) d)
+        set-shifted (getD xs (i + 1) d)
         ∙ rw (step, take-suc (drop (suc gap) xs) (i - gap) d (omega (arith, length-drop (suc gap) xs)), getD-drop (suc gap) xs (i - gap) d, there, add-one)
         (simp append-assoc)
 
     pub closed-all : suc i ≡ length xs → (a : A) → set (closedTo i) i a ≡ take gap xs ++ drop (suc gap) xs ++ a ∷ []
-    unfolding moved
+    unfolding shifted
     closed-all last a =
-        set-moved a
+        set-shifted a
         ∙ rw (take-all (i - gap) (drop (suc gap) xs) (omega (arith, length-drop (suc gap) xs)), drop-of-length-le xs {i = suc i} (omega arith)) refl

@@ -65,7 +65,7 @@ admitted-one p t l n k = go (eqb l 76) (eqb l 65) (eqb l 85)
     go false false true = counts (isAdmitted (answer p (t .list) (Unload n)))
     go false false false = omega arith
 
--- the event at one place, and all from there on
+-- the event at one position, and all from there on
 module _ (letters jobs kinds : List ℕ) where
   abbrev pub eventAt : ℕ → List Event
   eventAt i = eventOf (getD letters i 0) (getD jobs i 0) (getD kinds i 0)
