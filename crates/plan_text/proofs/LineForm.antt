@@ -1,0 +1,132 @@
+-- Questions 2 to 4 of a line: the tests decide what is asked. The fields are counted as they are read, so the count is theirs
+-- exactly when each is a number, and the numbers that a record does not have stay 0.
+use Prim.Native.Nat.{ℕ, zero, suc, _+_, _≤_, _<_}
+use native.Mathlib.Nat.{add-zero, zero-add, add-suc}
+use native.Mathlib.Numerals.{add-one}
+use native.Mathlib.Omega.{arith}
+use mathlib.Core.Bool.{Bool, true, false, cond, _&&_, _||_, false≢true}
+use mathlib.Core.List.{List, [], _∷_, _++_}
+use mathlib.Core.Logic.{_≢_, _⊎_, inl, inr, ⊎-elim}
+use mathlib.Core.Path.{_≡_, refl, sym, ap, subst, _∙_}
+use lib.Dec.{eqb, leb, ltb}
+use lib.ListN.{length, drop, getD, set}
+use lib.Seq.{getD-set-other}
+use borrow.Author.Tests.{eq-eqb, ne-eqb, lt-ltb}
+use Rattle.model.specs.Numbers.{InRange, entry, Each, each}
+use Rattle.model.proofs.Decide.{Decides, holding, failing, decided, decides-iff, decides-eq, decides-le, decides-lt, decides-range, decides-or, decides-each, _and_, passes, fails}
+use Rattle.plan_text.specs.Lines.{Line, tab, isSkipped, Plain, isPlain, parts, letterIn, fieldsIn}
+use Rattle.plan_text.specs.Records.{sections, sectionOf, Field, layouts, layoutOf, Digit, IsNumber, isDigit, isNumber, numberOn, fieldsOn, fieldsRead, noNumbers}
+use Rattle.plan_text.specs.Records.{recordWith, noRecord, recordIn, numbersOf}
+use Rattle.plan_text.specs.TextQuestions.{IsRecord, WellFormed, Follows, WellFielded}
+use Rattle.plan_text.specs.Reading.{follows}
+use Rattle.plan_text.specs.declared.Record.{Record}
+use Rattle.plan_text.proofs.Sections.{Blank}
+
+decides-true : (b : Bool) → Decides (b ≡ true) b
+decides-true true = holding refl
+decides-true false = failing false≢true
+
+-- what is asked of a record's line alone is met by a skipped one
+pub decides-record : (skipped : Bool) {P : Type 0} {b : Bool} → (skipped ≡ false → Decides P b) → Decides (skipped ≡ false → P) (skipped || b)
+decides-record true d = holding (λ e. absurd (false≢true (sym e)))
+decides-record false d = decides-iff (λ h e. h) (λ h. h refl) (d refl)
+
+-- 2
+pub decides-well-formed : (l : Line) → Decides (WellFormed l) (l .ended && each isPlain (l .bytes))
+decides-well-formed l =
+    decides-true (l .ended) and decides-each (λ b. decides-or (decides-eq b tab) (decides-le 32 b and decides-le b 126)) (l .bytes)
+
+-- 3
+pub decides-follows : (last section : ℕ) → Decides (Follows last section) (follows last section)
+decides-follows last section =
+    decides-iff (λ h. (h .0 .0, h .0 .1, h .1)) (λ h. ((h .0, h .1), h .2))
+    (decides-range section sections and decides-le last section and decides-or (decides-lt 0 last) (decides-eq section 1))
+
+-- 4: fields read after n others
+pub decides-number : (bs : List ℕ) → Decides (IsNumber bs) (isNumber bs)
+decides-number bs = decides-range (length bs) 5 and decides-each (λ b. decides-le 48 b and decides-le b 57) bs
+
+fields-counted : (n : ℕ) (xs : List ℕ) (fs : List (List ℕ)) → Each IsNumber fs → n + length fs ≤ 4 → fieldsOn n xs fs .count ≡ n + length fs
+fields-counted n xs [] h few = sym (add-zero n)
+fields-counted n xs (f ∷ fs) h few =
+    rw (passes (decides-number f) (h .0), lt-ltb n 4 (omega arith)) (fields-counted (n + 1) _ fs (h .1) (omega arith) ∙ omega arith)
+
+fields-refused : (n : ℕ) (xs : List ℕ) (fs : List (List ℕ)) → n ≤ 4 → (¬ (Each IsNumber fs × (n + length fs ≤ 4))) → fieldsOn n xs fs .count ≡ 5
+fields-refused n xs [] low h = absurd (h (tt, omega arith))
+fields-refused n xs (f ∷ fs) low h = go (λ low few. fields-refused (n + 1) _ fs low few) (decides-number f) (decides-lt n 4)
+  where
+    go : (n + 1 ≤ 4 → (¬ (Each IsNumber fs × (n + 1 + length fs ≤ 4))) → fieldsOn (n + 1) (set xs n (numberOn 0 f)) fs .count ≡ 5)
+        → {a b : Bool} → Decides (IsNumber f) a → Decides (n < 4) b
+        → cond (a && b) (fieldsOn (n + 1) (set xs n (numberOn 0 f)) fs) (record { count = 5; numbers = xs }) .count ≡ 5
+    go rest (failing bad) d = refl
+    go rest (holding good) (failing full) = refl
+    go rest (holding good) (holding room) = rest (omega arith) (λ k. h ((good, k .0), omega (arith, k .1)))
+
+-- the numbers after those of the fields are as they were
+fields-after : (n : ℕ) (xs : List ℕ) (fs : List (List ℕ)) (i : ℕ) → n + length fs ≤ i → getD (fieldsOn n xs fs .numbers) i 0 ≡ getD xs i 0
+fields-after n xs [] i h = refl
+fields-after n xs (f ∷ fs) i h = go (fields-after (n + 1) _ fs i (omega arith)) (isNumber f && ltb n 4)
+  where
+    go : getD (fieldsOn (n + 1) (set xs n (numberOn 0 f)) fs .numbers) i 0 ≡ getD (set xs n (numberOn 0 f)) i 0
+        → (b : Bool) → getD (cond b (fieldsOn (n + 1) (set xs n (numberOn 0 f)) fs) (record { count = 5; numbers = xs }) .numbers) i 0 ≡ getD xs i 0
+    go rest false = refl
+    go rest true = rest ∙ getD-set-other xs n i (numberOn 0 f) 0 (λ e. omega arith)
+
+few-fields : (section : ℕ) → length (layoutOf section) ≤ 4
+few-fields zero = omega arith
+few-fields (suc zero) = omega arith
+few-fields (suc (suc zero)) = omega arith
+few-fields (suc (suc (suc zero))) = omega arith
+few-fields (suc (suc (suc (suc zero)))) = omega arith
+few-fields (suc (suc (suc (suc (suc zero))))) = omega arith
+few-fields (suc (suc (suc (suc (suc (suc zero)))))) = omega arith
+few-fields (suc (suc (suc (suc (suc (suc (suc zero))))))) = omega arith
+few-fields (suc (suc (suc (suc (suc (suc (suc (suc n)))))))) = omega arith
+
+module _ (fs : List (List ℕ)) (section : ℕ) where
+  abbrev Fielded : Type 0
+  Fielded = (length fs ≡ length (layoutOf section)) × Each IsNumber fs
+
+  pub decides-fielded : Decides Fielded (eqb (fieldsRead fs .count) (length (layoutOf section)))
+  decides-fielded = go (decides-each decides-number fs and decides-le (length fs) 4)
+    where
+      go : {b : Bool} → Decides (Each IsNumber fs × (length fs ≤ 4)) b → Decides Fielded (eqb (fieldsRead fs .count) (length (layoutOf section)))
+      go (holding h) =
+          let counted = fields-counted 0 noNumbers fs (h .0) (omega (arith, h .1)) ∙ zero-add (length fs) in
+          rw counted (decides-iff (λ e. (e, h .0)) (λ k. k .0) (decides-eq (length fs) (length (layoutOf section))))
+      go (failing h) =
+          let counted = fields-refused 0 noNumbers fs (omega arith) (λ k. h (k .0, omega (arith, k .1))) in
+          rw (counted, ne-eqb 5 (length (layoutOf section)) (λ e. omega (arith, e, few-fields section)))
+          (failing (λ k. h (k .1, omega (arith, k .0, few-fields section))))
+
+  -- zeros from a number on
+  zeros-from : (m : ℕ) (xs : List ℕ) → m ≤ 4 → ((i : ℕ) → m ≤ i → getD xs i 0 ≡ 0)
+      → Each (λ (x : ℕ). x ≡ 0) (drop m (getD xs 0 0 ∷ getD xs 1 0 ∷ getD xs 2 0 ∷ getD xs 3 0 ∷ []))
+  zeros-from zero xs low z = (z 0 (omega arith), (z 1 (omega arith), (z 2 (omega arith), (z 3 (omega arith), tt))))
+  zeros-from (suc zero) xs low z = (z 1 (omega arith), (z 2 (omega arith), (z 3 (omega arith), tt)))
+  zeros-from (suc (suc zero)) xs low z = (z 2 (omega arith), (z 3 (omega arith), tt))
+  zeros-from (suc (suc (suc zero))) xs low z = (z 3 (omega arith), tt)
+  zeros-from (suc (suc (suc (suc zero)))) xs low z = tt
+  zeros-from (suc (suc (suc (suc (suc m))))) xs low z = absurd (omega arith)
+
+  pub fielded-blank : Fielded → Blank (recordWith section (fieldsRead fs .numbers))
+  fielded-blank h =
+      zeros-from (length (layoutOf section)) (fieldsRead fs .numbers) (few-fields section)
+      (λ i low. fields-after 0 noNumbers fs i (omega (arith, h .0)) ∙ none i)
+    where
+      none : (i : ℕ) → getD noNumbers i 0 ≡ 0
+      none zero = refl
+      none (suc zero) = refl
+      none (suc (suc zero)) = refl
+      none (suc (suc (suc zero))) = refl
+      none (suc (suc (suc (suc i)))) = refl
+
+-- the record of a line that is one, and of a skipped line
+module _ (bytes : List ℕ) where
+  pub record-in : isSkipped bytes ≡ false → recordIn bytes ≡ recordWith (sectionOf (letterIn (parts bytes))) (fieldsRead (fieldsIn (parts bytes)) .numbers)
+  unfolding recordIn
+  record-in e = rw e refl
+
+  pub skipped-in : isSkipped bytes ≡ true → recordIn bytes ≡ noRecord
+  unfolding recordIn
+  skipped-in e = rw e refl

@@ -1,0 +1,254 @@
+-- Questions 5 and 6 of a record: the tests decide what is asked, since what is held under a key is there exactly when a record
+-- with that key was read, and the stages of all types add up.
+use Prim.Native.Nat.{ℕ, zero, suc, _+_, _-_, _≤_, _<_}
+use native.Mathlib.Nat.{add-assoc}
+use native.Mathlib.Omega.{arith}
+use mathlib.Core.Bool.{Bool, true, false, cond, _&&_}
+use mathlib.Core.List.{List, [], _∷_, _++_}
+use mathlib.Core.Logic.{_≢_, _⊎_, inl, inr, ⊎-elim, _↔_}
+use mathlib.Core.Path.{_≡_, refl, sym, ap, subst, _∙_}
+use lib.Dec.{eqb, leb}
+use lib.ListN.{length, getD, replicate}
+use borrow.Author.Tests.{eq-eqb, ne-eqb}
+use Rattle.model.specs.Limits.{maxTypes, maxAllStages}
+use Rattle.model.specs.Numbers.{InRange, at, sumTo, Each}
+use Rattle.model.specs.Plan.{emptyPlan, lengthOf, allStages, boundOf, stageOf}
+use Rattle.model.specs.declared.Plan.{Plan}
+use Rattle.model.proofs.Decide.{Decides, holding, failing, decided, decides-iff, decides-eq, decides-le, _and_}
+use Rattle.model.proofs.Lists.{replicated}
+use Rattle.plan_text.specs.Records.{Field, Known, knownOf, InFields, fitsFields, lowestIn, highestIn, InRanges, inRanges, layoutOf, numbersOf}
+use Rattle.plan_text.specs.Records.{keyOf, Some, Has, sections}
+use Rattle.plan_text.specs.Written.{Draft, emptyDraft, put, written, stageHere, heldIn, typeIn, stageIn}
+use Rattle.plan_text.specs.TextQuestions.{FirstWithKey}
+use Rattle.plan_text.specs.Reading.{withinTotal}
+use Rattle.plan_text.specs.Meaning.{line}
+use Rattle.plan_text.specs.declared.Record.{Record}
+use Rattle.plan_text.proofs.RecordLists.{each-some, none-each, each-none, some-map, has-each, put-same, put-other}
+use Rattle.plan_text.proofs.Sections.{of-section, one-of-seven, Blank}
+use Rattle.plan_text.proofs.Kept.{Entry, Bounded, Place, Half, demandHalf, weightHalf, InPlace, Ranged, Kept, found-at}
+use Rattle.plan_text.proofs.KeptAfter.{counts-fit}
+
+-- 5: the ranges of the fields
+module _ (k : Known) where
+  decides-fields : (before : ℕ) (fs : List Field) (xs : List ℕ) → Decides (InFields k before fs xs) (fitsFields k before fs xs)
+  decides-fields before [] xs = holding tt
+  decides-fields before (f ∷ fs) [] = failing (λ h. h)
+  decides-fields before (f ∷ fs) (x ∷ xs) = (decides-le (lowestIn f) x and decides-le x (highestIn k before f)) and decides-fields x fs xs
+
+  pub decides-ranges : (r : Record) → Decides (InRanges k r) (inRanges k r)
+  unfolding inRanges
+  decides-ranges r = decides-fields 0 (layoutOf (r .section)) (numbersOf r)
+
+-- 6: under the key of a record, of which x is held, stands a value or none
+module _ {K : Type 0} (of : K → ℕ → Record) (Here : K → ℕ → Type 0) (rs : List Record) (known : Known) (ranged : Each (Ranged known) rs)
+    (held : (key : K) (v : ℕ) → Here key v ↔ Has rs (of key v)) (key : K) (r : Record) (x : ℕ)
+    (none : x ≡ 0 → (v : ℕ) → ¬ Here key v) (some : x ≢ 0 → (v : ℕ) × Here key v) (keyed : (v : ℕ) → keyOf (of key v) ≡ keyOf r)
+    (shape : (q : Record) → Ranged known q → keyOf q ≡ keyOf r → (v : ℕ) × (q ≡ of key v)) where
+  decides-key : Decides (FirstWithKey rs r) (eqb x 0)
+  decides-key = decides-iff there back (decides-eq x 0)
+    where
+      there : x ≡ 0 → FirstWithKey rs r
+      there e = none-each (λ q. keyOf q ≡ keyOf r) rs clash
+        where
+          clash : ¬ Some (λ q. keyOf q ≡ keyOf r) rs
+          clash h =
+              let found = each-some (λ q. keyOf q ≡ keyOf r) (Ranged known) rs ranged h in
+              let made = shape (found .0) (found .1) (found .2) in
+              none e (made .0) (held key (made .0) .1 (subst (Has rs) (made .1) (found .3)))
+
+      back : FirstWithKey rs r → x ≡ 0
+      back first = ⊎-elim (λ (e : x ≡ 0). e) (λ (ne : ¬ (x ≡ 0)). absurd (taken ne)) (decided (decides-eq x 0))
+        where
+          taken : x ≢ 0 → ⊥
+          taken ne =
+              let v = some ne in
+              each-none (λ q. keyOf q ≡ keyOf r) rs first
+              (some-map (λ q. q ≡ of key (v .0)) (λ q. keyOf q ≡ keyOf r) (λ q e. ap keyOf e ∙ keyed (v .0)) rs (held key (v .0) .0 (v .1)))
+
+-- records of one key: those with one number and a value, and those with three
+module _ (n : ℕ) (q : Record) (key : List ℕ) (e : keyOf q ≡ n ∷ key) where
+  section-same : q .section ≡ n
+  section-same = ap (λ (xs : List ℕ). getD xs 0 0) e
+
+  key-at : keyOf (line n (q .first) (q .second) (q .third) (q .fourth)) ≡ n ∷ key
+  key-at = ap keyOf (sym (of-section n q section-same)) ∙ e
+
+pair-made : (n a : ℕ) → ((x y z w : ℕ) → keyOf (line n x y z w) ≡ n ∷ x ∷ []) → ((x y z w : ℕ) → Blank (line n x y z w) → (z ≡ 0) × (w ≡ 0))
+    → (known : Known) (q : Record) → Ranged known q → keyOf q ≡ n ∷ a ∷ [] → (v : ℕ) × (q ≡ line n a v 0 0)
+pair-made n a keys blanks known q ranged e =
+    let is = section-same n q (a ∷ []) e in
+    let same = ap (λ (xs : List ℕ). getD xs 1 0) (sym (keys (q .first) (q .second) (q .third) (q .fourth)) ∙ key-at n q (a ∷ []) e) in
+    let z = blanks (q .first) (q .second) (q .third) (q .fourth) (subst Blank (of-section n q is) (ranged .blank)) in
+    (q .second, of-section n q is ∙ (λ i. line n (same i) (q .second) (z .0 i) (z .1 i)))
+
+triple-made : (n a b c : ℕ) → ((x y z w : ℕ) → keyOf (line n x y z w) ≡ n ∷ x ∷ y ∷ z ∷ [])
+    → (known : Known) (q : Record) → Ranged known q → keyOf q ≡ n ∷ a ∷ b ∷ c ∷ [] → (v : ℕ) × (q ≡ line n a b c v)
+triple-made n a b c keys known q ranged e =
+    let is = section-same n q (a ∷ b ∷ c ∷ []) e in
+    let same = sym (keys (q .first) (q .second) (q .third) (q .fourth)) ∙ key-at n q (a ∷ b ∷ c ∷ []) e in
+    let x = ap (λ (xs : List ℕ). getD xs 1 0) same in
+    let y = ap (λ (xs : List ℕ). getD xs 2 0) same in
+    let z = ap (λ (xs : List ℕ). getD xs 3 0) same in
+    (q .fourth, of-section n q is ∙ (λ i. line n (x i) (y i) (z i) (q .fourth)))
+
+module _ (rs : List Record) (d : Draft) (kept : Kept rs d) where
+  abbrev known : Known
+  known = knownOf (d .plan)
+
+  -- a list's entry
+  decides-entry : (n : ℕ) (xs : List ℕ) → ((i v : ℕ) → Entry xs i v ↔ Has rs (line n i v 0 0))
+      → ((x y z w : ℕ) → keyOf (line n x y z w) ≡ n ∷ x ∷ []) → ((x y z w : ℕ) → Blank (line n x y z w) → (z ≡ 0) × (w ≡ 0))
+      → (a b c e : ℕ) → Decides (FirstWithKey rs (line n a b c e)) (eqb (at xs a) 0)
+  decides-entry n xs held keys blanks a b c e =
+      decides-key (λ i v. line n i v 0 0) (Entry xs) rs known (kept .ranged) held a (line n a b c e) (at xs a)
+      (λ z v h. omega (arith, h)) (λ ne. (at xs a, (omega (arith, ne), refl))) (λ v. keys a v 0 0 ∙ sym (keys a b c e))
+      (λ q ranged same. pair-made n a keys blanks known q ranged (same ∙ keys a b c e))
+
+  decides-counts : (a b c e : ℕ) → Decides (FirstWithKey rs (line 1 a b c e)) (eqb (d .section) 0)
+  decides-counts a b c e = decides-iff there back (decides-eq (d .section) 0)
+    where
+      there : d .section ≡ 0 → FirstWithKey rs (line 1 a b c e)
+      there z = rw (kept .fresh z .0) tt
+
+      back : FirstWithKey rs (line 1 a b c e) → d .section ≡ 0
+      back first = ⊎-elim (λ (z : d .section ≡ 0). z) (λ (ne : ¬ (d .section ≡ 0)). absurd (taken ne)) (decided (decides-eq (d .section) 0))
+        where
+          taken : d .section ≢ 0 → ⊥
+          taken ne =
+              let counts = line 1 (d .plan .resources) (d .plan .types) (d .plan .rows) 0 in
+              each-none (λ q. keyOf q ≡ 1 ∷ []) rs first
+              (some-map (λ q. q ≡ counts) (λ q. keyOf q ≡ 1 ∷ []) (λ q same. ap keyOf same) rs (kept .counted (omega (arith, ne))))
+
+  decides-bound : (a b c e : ℕ) → Decides (FirstWithKey rs (line 5 a b c e)) (eqb (at (d .bounded) a) 0)
+  decides-bound a b c e =
+      decides-key (λ i v. line 5 i v 0 0) (Bounded (d .bounded) (d .plan .bound)) rs known (kept .ranged) (kept .bounds) a (line 5 a b c e)
+      (at (d .bounded) a) (λ z v h. omega (arith, h))
+      (λ ne. (boundOf (d .plan) a, (⊎-elim (λ (m : at (d .bounded) a ≡ 1). m) (λ m. absurd (ne (m .0))) (kept .flags a), refl))) (λ v. refl)
+      (λ q ranged same. pair-made 5 a (λ x y z w. refl) (λ x y z w h. (h .0, h .1 .0)) known q ranged same)
+
+  -- a stage's entry
+  decides-demand : (a b c e : ℕ) → InRanges known (line 4 a b c e) → Decides (FirstWithKey rs (line 4 a b c e)) (eqb (heldIn d (line 4 a b c e)) 0)
+  unfolding heldIn
+  decides-demand a b c e fit =
+      let here = found-at rs d kept (line 4 a b c e) (inl refl) (fit .0, fit .1 .0) in
+      rw here
+      (decides-key (demandHalf .of) (InPlace demandHalf (d .plan)) rs known (kept .ranged) (kept .demands) (a, b, c) (line 4 a b c e)
+      (at (stageOf (d .plan) a b .demand) c) (λ z v h. omega (arith, h, z)) (λ ne. (_, (omega (arith, ne), refl))) (λ v. refl)
+      (λ q ranged same. triple-made 4 a b c (λ x y z w. refl) known q ranged same))
+
+  decides-weight : (a b c e : ℕ) → InRanges known (line 6 a b c e) → Decides (FirstWithKey rs (line 6 a b c e)) (eqb (heldIn d (line 6 a b c e)) 0)
+  unfolding heldIn
+  decides-weight a b c e fit =
+      let here = found-at rs d kept (line 6 a b c e) (inr refl) (fit .1 .0, fit .1 .1 .0) in
+      rw here
+      (decides-key (weightHalf .of) (InPlace weightHalf (d .plan)) rs known (kept .ranged) (kept .weights) (b, c, a) (line 6 a b c e)
+      (at (stageOf (d .plan) b c .weight) a) (λ z v h. omega (arith, h, z)) (λ ne. (_, (omega (arith, ne), refl))) (λ v. refl)
+      (λ q ranged same. triple-made 6 a b c (λ x y z w. refl) known q ranged same))
+
+  pub decides-first : (r : Record) → InRange (r .section) sections → InRanges known r → Decides (FirstWithKey rs r) (eqb (heldIn d r) 0)
+  unfolding heldIn
+  decides-first r section fit =
+      one-of-seven (λ n. r .section ≡ n → Decides (FirstWithKey rs r) (eqb (heldIn d r) 0))
+      (λ e. at-section 1 e (decides-counts (r .first) (r .second) (r .third) (r .fourth)))
+      (λ e.
+      at-section 2 e
+      (decides-entry 2 (d .plan .capacity) (kept .capacities) (λ x y z w. refl) (λ x y z w h. (h .0, h .1 .0)) (r .first) (r .second) (r .third) (r .fourth)))
+      (λ e.
+      at-section 3 e
+      (decides-entry 3 (d .plan .lengths) (kept .lengths) (λ x y z w. refl) (λ x y z w h. (h .0, h .1 .0)) (r .first) (r .second) (r .third) (r .fourth)))
+      (λ e. at-section 4 e (decides-demand (r .first) (r .second) (r .third) (r .fourth) (fit-at 4 e)))
+      (λ e. at-section 5 e (decides-bound (r .first) (r .second) (r .third) (r .fourth)))
+      (λ e. at-section 6 e (decides-weight (r .first) (r .second) (r .third) (r .fourth) (fit-at 6 e)))
+      (λ e.
+      at-section 7 e
+      (decides-entry 7 (d .plan .rank) (kept .ranks) (λ x y z w. refl) (λ x y z w h. (h .0, h .1 .0)) (r .first) (r .second) (r .third) (r .fourth)))
+      (r .section) section refl
+    where
+      fit-at : (n : ℕ) → r .section ≡ n → InRanges known (line n (r .first) (r .second) (r .third) (r .fourth))
+      fit-at n e = subst (InRanges known) (of-section n r e) fit
+
+      at-section : (n : ℕ) → r .section ≡ n
+          → Decides (FirstWithKey rs (line n (r .first) (r .second) (r .third) (r .fourth))) (eqb (heldIn d (line n (r .first) (r .second) (r .third) (r .fourth))) 0)
+          → Decides (FirstWithKey rs r) (eqb (heldIn d r) 0)
+      at-section n e h = subst (λ q. Decides (FirstWithKey rs q) (eqb (heldIn d q) 0)) (sym (of-section n r e)) h
+
+-- 5 of all types together: the stages add up
+module _ (xs : List ℕ) (i v : ℕ) (room : InRange i (length xs)) (empty : at xs i ≡ 0) where
+  sum-below : (n : ℕ) → n < i → sumTo n (at (put xs i v)) ≡ sumTo n (at xs)
+  sum-below zero h = refl
+  sum-below (suc n) h = rw (sum-below n (omega arith), put-other xs i (suc n) v (room .0) (λ e. omega arith)) refl
+
+  pub sum-put : (n : ℕ) → i ≤ n → sumTo n (at (put xs i v)) ≡ sumTo n (at xs) + v
+  sum-put zero h = absurd (omega (arith, room))
+  sum-put (suc n) h =
+      ⊎-elim
+      (λ (e : suc n ≡ i).
+      let before = sum-below n (omega arith) in
+      let last : at (put xs i v) (suc n) ≡ v = ap (at (put xs i v)) e ∙ put-same xs i v room in
+      let old : at xs (suc n) ≡ 0 = ap (at xs) e ∙ empty in
+      omega (arith, before, last, old))
+      (λ (ne : ¬ (suc n ≡ i)).
+      let before = sum-put n (omega (arith, ne)) in
+      let last = put-other xs i (suc n) v (room .0) ne in
+      omega (arith, before, last))
+      (decided (decides-eq (suc n) i))
+
+pub sum-beyond : (f : ℕ → ℕ) (n m : ℕ) → n ≤ m → ((t : ℕ) → n < t → f t ≡ 0) → sumTo m f ≡ sumTo n f
+sum-beyond f n zero h zeros = let e : n ≡ 0 = omega arith in rw e refl
+sum-beyond f n (suc m) h zeros =
+    ⊎-elim (λ (e : n ≡ suc m). rw e refl)
+    (λ (ne : ¬ (n ≡ suc m)). let before = sum-beyond f n m (omega (arith, ne)) zeros in let last = zeros (suc m) (omega (arith, ne)) in omega (arith, before, last))
+    (decided (decides-eq n (suc m)))
+
+module _ (rs : List Record) (d : Draft) (kept : Kept rs d) where
+  -- only types of the plan have stages
+  pub no-more-types : (t : ℕ) → d .plan .types < t → at (d .plan .lengths) t ≡ 0
+  no-more-types t h = ⊎-elim (λ (e : at (d .plan .lengths) t ≡ 0). e) (λ ne. absurd (beyond ne)) (decided (decides-eq (at (d .plan .lengths) t) 0))
+    where
+      beyond : ¬ (at (d .plan .lengths) t ≡ 0) → ⊥
+      beyond ne =
+          let there = kept .lengths t (at (d .plan .lengths) t) .0 (omega (arith, ne), refl) in
+          let fit = has-each (Ranged (knownOf (d .plan))) rs _ (kept .ranged) there .ranges in
+          omega (arith, fit .0)
+
+  pub total-of : d .plan .types ≤ maxTypes → sumTo maxTypes (at (d .plan .lengths)) ≡ allStages (d .plan)
+  unfolding allStages
+  total-of h = sum-beyond (at (d .plan .lengths)) (d .plan .types) maxTypes h no-more-types
+
+  module _ (r : Record) (section : InRange (r .section) sections) (fit : InRanges (knownOf (d .plan)) r) (first : heldIn d r ≡ 0)
+      (past : (1 ≤ d .section) ⊎ (r .section ≡ 1)) where
+    decides-length : r .section ≡ 3
+        → Decides (allStages (written d r .plan) ≤ maxAllStages) (leb (sumTo maxTypes (at (d .plan .lengths)) + r .second) maxAllStages)
+    unfolding written heldIn allStages
+    decides-length e =
+        let q = of-section 3 r e in
+        let ranges = subst (InRanges (knownOf (d .plan))) q fit in
+        let empty = subst (λ x. heldIn d x ≡ 0) q first in
+        let counts = counts-fit rs d kept (⊎-elim (λ (h : 1 ≤ d .section). h) (λ (f : r .section ≡ 1). absurd (omega arith)) past) in
+        let room : InRange (r .first) (length (d .plan .lengths)) = (ranges .0 .0, omega (arith, ranges, counts, kept .sizes .lengths)) in
+        let added = sum-put (d .plan .lengths) (r .first) (r .second) room empty (d .plan .types) (ranges .0 .1) in
+        let before = total-of (counts .1 .1) in
+        rw e (decides-iff (λ h. omega (arith, added, before)) (λ h. omega (arith, added, before))
+        (decides-le (sumTo maxTypes (at (d .plan .lengths)) + r .second) maxAllStages))
+
+    within-other : r .section ≢ 3 → allStages (written d r .plan) ≤ maxAllStages
+    unfolding written allStages emptyDraft emptyPlan heldIn
+    within-other ne =
+        ⊎-elim
+        (λ (e : r .section ≡ 1).
+        let none = kept .fresh (subst (λ x. heldIn d x ≡ 0) (of-section 1 r e) first) .1 in
+        let zeros : (t : ℕ) → 0 < t → at (d .plan .lengths) t ≡ 0 = λ t h. ap (λ (c : Draft). at (c .plan .lengths) t) none ∙ no-length t in
+        let sum = sum-beyond (at (d .plan .lengths)) 0 (r .second) (omega arith) zeros in
+        rw e (omega (arith, sum)))
+        (λ (n : ¬ (r .section ≡ 1)). rw (ne-eqb (r .section) 1 n, ne-eqb (r .section) 3 ne) (kept .total))
+        (decided (decides-eq (r .section) 1))
+      where
+        no-length : (t : ℕ) → at (replicate maxTypes 0) t ≡ 0
+        no-length zero = refl
+        no-length (suc t) = replicated maxTypes t 0
+
+    pub decides-total : Decides (allStages (written d r .plan) ≤ maxAllStages) (withinTotal (d .plan .lengths) r)
+    decides-total =
+        ⊎-elim (λ (e : r .section ≡ 3). rw (eq-eqb (r .section) 3 e) (decides-length e))
+        (λ (ne : ¬ (r .section ≡ 3)). rw (ne-eqb (r .section) 3 ne) (holding (within-other ne)))
+        (decided (decides-eq (r .section) 3))

@@ -1,0 +1,30 @@
+-- Records by their section: what holds of a record of each section with any numbers holds of every record of the text.
+use Prim.Native.Nat.{ℕ, zero, suc, _≤_}
+use native.Mathlib.Omega.{arith}
+use mathlib.Core.List.{List, [], _∷_}
+use mathlib.Core.Path.{_≡_, refl, sym, ap, subst}
+use lib.ListN.{length, drop, getD}
+use Rattle.model.specs.Numbers.{InRange, Each}
+use Rattle.plan_text.specs.Records.{sections, layoutOf, numbersOf}
+use Rattle.plan_text.specs.Meaning.{line}
+use Rattle.plan_text.specs.declared.Record.{Record}
+
+-- a record of section n, written out
+pub of-section : (n : ℕ) (r : Record) → r .section ≡ n → r ≡ line n (r .first) (r .second) (r .third) (r .fourth)
+of-section n r e = λ i. record { section = e i; first = r .first; second = r .second; third = r .third; fourth = r .fourth }
+
+-- what holds at 1 to 7 holds of each section's number
+pub one-of-seven : (P : ℕ → Type 0) → P 1 → P 2 → P 3 → P 4 → P 5 → P 6 → P 7 → (n : ℕ) → InRange n sections → P n
+one-of-seven P a b c d e f g zero h = absurd (omega arith)
+one-of-seven P a b c d e f g (suc zero) h = a
+one-of-seven P a b c d e f g (suc (suc zero)) h = b
+one-of-seven P a b c d e f g (suc (suc (suc zero))) h = c
+one-of-seven P a b c d e f g (suc (suc (suc (suc zero)))) h = d
+one-of-seven P a b c d e f g (suc (suc (suc (suc (suc zero))))) h = e
+one-of-seven P a b c d e f g (suc (suc (suc (suc (suc (suc zero)))))) h = f
+one-of-seven P a b c d e f g (suc (suc (suc (suc (suc (suc (suc zero))))))) h = g
+one-of-seven P a b c d e f g (suc (suc (suc (suc (suc (suc (suc (suc n)))))))) h = absurd (omega arith)
+
+-- the numbers that a record's section does not have are 0
+abbrev pub Blank : Record → Type 0
+Blank r = Each (λ (x : ℕ). x ≡ 0) (drop (length (layoutOf (r .section))) (numbersOf r))

@@ -1,0 +1,58 @@
+-- What the parts of the reader compute, each under one name. No promise rests on these: the reader's contract is an equation
+-- with `reading`.
+use Prim.Native.Nat.{ℕ, _%_}
+use mathlib.Core.Bool.{Bool, cond}
+use mathlib.Core.List.{List, [], _∷_}
+use lib.Dec.{eqb}
+use Rattle.model.specs.Questions.{Question, ask, answerOf}
+use Rattle.plan_text.specs.Lines.{Line}
+use Rattle.plan_text.specs.Records.{isNumber, numberOn, noRecord, recordIn}
+use Rattle.plan_text.specs.Written.{changed}
+use Rattle.plan_text.specs.TextQuestions.{textNumber}
+use Rattle.plan_text.specs.Reading.{formQuestions, withinTotal}
+use Rattle.plan_text.specs.declared.Record.{Record}
+use Rattle.plan_text.specs.declared.Form.{Form}
+use Rattle.plan_text.specs.declared.Counts.{Counts}
+use Rattle.plan_text.specs.declared.TextAnswer.{TextAnswer}
+use Rattle.plan_text.specs.declared.TextAnswer.the-variants.{Accepted, OutOfRange, Repeated}
+
+abbrev pub isAccepted : TextAnswer → Bool
+isAccepted a = eqb (textNumber a) 0
+
+-- the number of a field; 100000, which 5 digits never say, where it is none
+abbrev pub noNumber : ℕ
+noNumber = 100000
+
+abbrev pub numberRead : List ℕ → ℕ
+numberRead bs = cond (isNumber bs) (numberOn 0 bs) noNumber
+
+-- questions 2 to 4 of a line
+abbrev pub formAnswer : ℕ → Line → TextAnswer
+formAnswer last l = answerOf Accepted (formQuestions last l)
+
+abbrev pub formOf : ℕ → Line → Form
+formOf last l = record { answer = formAnswer last l; read = cond (isAccepted (formAnswer last l)) (recordIn (l .bytes)) noRecord }
+
+-- question 6 of a record, and 5 of all types together, by what is held under its key
+abbrev pub entryAnswer : ℕ → List ℕ → Record → TextAnswer
+entryAnswer held lengths r = answerOf Accepted (ask (eqb held 0) Repeated ∷ ask (withinTotal lengths r) OutOfRange ∷ [])
+
+-- a record whose values are cut to what a plan's entries can hold; in range they are as they were
+abbrev pub narrowed : Record → Record
+narrowed r =
+    record {
+      section = r .section;
+      first = r .first;
+      second = cond (eqb (r .section) 5) (r .second % 65536) (r .second % 256);
+      third = r .third;
+      fourth = r .fourth % 256;
+    }
+
+-- the counts after a record
+abbrev pub countsAfter : Counts → Record → Counts
+countsAfter k r =
+    record {
+      resources = changed r 1 (r .first % 256) (k .resources);
+      types = changed r 1 (r .second % 256) (k .types);
+      rows = changed r 1 (r .third % 256) (k .rows);
+    }

@@ -1,0 +1,54 @@
+// The plan text as values: a record of it, and what reading it answers. What a text means is defined in specs/, and nothing
+// runs here.
+use model::Plan;
+
+// A record: the section of its letter, 1 to 7 in the order C, R, T, S, B, A, K, and its numbers in the order of the fields, 0
+// where it has no such field. Section 0 is no record: a skipped line.
+pub struct Record {
+    pub section: u32,
+    pub first: u32,
+    pub second: u32,
+    pub third: u32,
+    pub fourth: u32,
+}
+
+// The fields of a line, read as numbers: how many there are, 5 where one is no number or there is a fifth, and their numbers.
+pub struct Fields {
+    pub count: usize,
+    pub numbers: [u32; 4],
+}
+
+// What a plan text is answered; its numbers are `textNumber` of specs/TextQuestions.
+pub enum TextAnswer {
+    Accepted,
+    TooLong,
+    BadLine,
+    BadLetter,
+    BadFields,
+    OutOfRange,
+    Repeated,
+    Incomplete,
+}
+
+// The answer to questions 2 to 4 of a line, and its record where they are met.
+pub struct Form {
+    pub answer: TextAnswer,
+    pub read: Record,
+}
+
+// The counts of a plan, as its C says them.
+pub struct Counts {
+    pub resources: u8,
+    pub types: u8,
+    pub rows: u8,
+}
+
+// The answer with the line that decides it, counted from 1, that line's place in the text, from its first byte up to but not
+// including its LF, and the plan; the empty plan where the text is refused.
+pub struct Reading {
+    pub answer: TextAnswer,
+    pub line: u32,
+    pub from: usize,
+    pub to: usize,
+    pub plan: Plan,
+}
