@@ -3,9 +3,11 @@ ghost use mathlib.Core.Path.{_≡_};
 ghost use Rattle.model.specs.Upstream.{checkNumbers};
 ghost use Rattle.events.specs.Events.{answerNumbers};
 ghost use Rattle.events.specs.Drain.{endNumber};
+ghost use Rattle.plan_text.specs.TextQuestions.{textNumber};
 use events::Answer;
 use events::End;
 use model::Check;
+use plan_text::TextAnswer;
 
 pub fn answer_number(a: Answer) -> u32
     ensures { λ r. ⌜ r ≡ answerNumbers a .0 ⌝ }
@@ -94,5 +96,21 @@ pub fn check_second(c: Check) -> u32
         Check::RowCount => 0,
         Check::WrongWeight(_) => 0,
         Check::WrongBound(_) => 0,
+    }
+}
+
+// Of a plan text.
+pub fn text_number(a: TextAnswer) -> u32
+    ensures { λ r. ⌜ r ≡ textNumber a ⌝ }
+{
+    match a {
+        TextAnswer::Accepted => 0,
+        TextAnswer::TooLong => 1,
+        TextAnswer::BadLine => 2,
+        TextAnswer::BadLetter => 3,
+        TextAnswer::BadFields => 4,
+        TextAnswer::OutOfRange => 5,
+        TextAnswer::Repeated => 6,
+        TextAnswer::Incomplete => 7,
     }
 }

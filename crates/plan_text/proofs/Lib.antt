@@ -12,3 +12,5 @@ pub mod Completeness
 pub mod FirstFailure
 pub mod AcceptedText
 pub mod SamePlan
+pub mod ReaderSteps
+pub mod TextAnswerTags

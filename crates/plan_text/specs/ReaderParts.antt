@@ -5,14 +5,17 @@ use mathlib.Core.Bool.{Bool, cond}
 use mathlib.Core.List.{List, [], _∷_}
 use lib.Dec.{eqb}
 use Rattle.model.specs.Questions.{Question, ask, answerOf}
+use Rattle.model.specs.declared.Stage.{Stage}
+use Rattle.model.specs.declared.Plan.{Plan}
 use Rattle.plan_text.specs.Lines.{Line}
-use Rattle.plan_text.specs.Records.{isNumber, numberOn, noRecord, recordIn}
-use Rattle.plan_text.specs.Written.{changed}
+use Rattle.plan_text.specs.Records.{Known, isNumber, numberOn, noRecord, recordIn, inRanges}
+use Rattle.plan_text.specs.Written.{Draft, changed}
 use Rattle.plan_text.specs.TextQuestions.{textNumber}
 use Rattle.plan_text.specs.Reading.{formQuestions, withinTotal}
 use Rattle.plan_text.specs.declared.Record.{Record}
 use Rattle.plan_text.specs.declared.Form.{Form}
 use Rattle.plan_text.specs.declared.Counts.{Counts}
+use Rattle.plan_text.specs.declared.Head.{Head}
 use Rattle.plan_text.specs.declared.TextAnswer.{TextAnswer}
 use Rattle.plan_text.specs.declared.TextAnswer.the-variants.{Accepted, OutOfRange, Repeated}
 
@@ -33,7 +36,12 @@ formAnswer last l = answerOf Accepted (formQuestions last l)
 abbrev pub formOf : ℕ → Line → Form
 formOf last l = record { answer = formAnswer last l; read = cond (isAccepted (formAnswer last l)) (recordIn (l .bytes)) noRecord }
 
--- question 6 of a record, and 5 of all types together, by what is held under its key
+-- questions 5 and 6 of a record, by what is held under its key
+abbrev pub recordAnswer : Known → ℕ → List ℕ → Record → TextAnswer
+recordAnswer k held lengths r =
+    answerOf Accepted (ask (inRanges k r) OutOfRange ∷ ask (eqb held 0) Repeated ∷ ask (withinTotal lengths r) OutOfRange ∷ [])
+
+-- the same without the ranges
 abbrev pub entryAnswer : ℕ → List ℕ → Record → TextAnswer
 entryAnswer held lengths r = answerOf Accepted (ask (eqb held 0) Repeated ∷ ask (withinTotal lengths r) OutOfRange ∷ [])
 
@@ -56,3 +64,30 @@ countsAfter k r =
       types = changed r 1 (r .second % 256) (k .types);
       rows = changed r 1 (r .third % 256) (k .rows);
     }
+
+-- and with them the section of the last record
+abbrev pub headAfter : Head → Record → Head
+headAfter h r = record { counts = countsAfter (h .counts) r; section = changed r 0 (h .section) (r .section) }
+
+-- a plan and a draft by their parts
+abbrev pub planWith : Counts → List ℕ → List ℕ → List ℕ → List ℕ → List Stage → Plan
+planWith k capacity rank bound lengths stages =
+    record {
+      resources = k .resources;
+      types = k .types;
+      rows = k .rows;
+      capacity = capacity;
+      rank = rank;
+      bound = bound;
+      lengths = lengths;
+      stages = stages;
+    }
+
+abbrev pub draftWith : Head → List ℕ → List ℕ → List ℕ → List ℕ → List Stage → List ℕ → Draft
+draftWith h capacity rank bound lengths stages bounded =
+    record { plan = planWith (h .counts) capacity rank bound lengths stages; bounded = bounded; section = h .section }
+
+-- what ranges are asked of, by its parts
+abbrev pub knownWith : Counts → List ℕ → List ℕ → Known
+knownWith k capacity lengths =
+    record { resources = k .resources; types = k .types; rows = k .rows; capacity = capacity; lengths = lengths }

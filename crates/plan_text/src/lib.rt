@@ -43,6 +43,12 @@ pub struct Counts {
     pub rows: u8,
 }
 
+// What records say beside the lists of a plan: its counts, and the section of the last record, 0 for none.
+pub struct Head {
+    pub counts: Counts,
+    pub section: u32,
+}
+
 // The answer with the line that decides it, counted from 1, that line's place in the text, from its first byte up to but not
 // including its LF, and the plan; the empty plan where the text is refused.
 pub struct Reading {

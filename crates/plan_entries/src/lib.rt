@@ -1,0 +1,130 @@
+// What a plan so far has under the key of a record, and questions 5 and 6 by it. A plan is handed in by its parts, and any record
+// may be.
+ghost use mathlib.Core.Path.{_≡_};
+ghost use Prim.Native.Nat.{ℕ};
+ghost use lib.Dec.{leb};
+ghost use Rattle.model.specs.Numbers.{at, allTo};
+ghost use Rattle.plan_text.specs.Written.{indexIn, heldBy};
+ghost use Rattle.plan_text.specs.Reading.{withinTotal};
+ghost use Rattle.plan_text.specs.ReaderParts.{recordAnswer, entryAnswer, knownWith};
+use entries::entry_of;
+use model::Stage;
+use plan_text::Head;
+use plan_text::Record;
+use plan_text::TextAnswer;
+use record_ranges::in_ranges;
+use stages::stage_index;
+
+// Where the stage of an S or an A stands among all stages; 0 for another record.
+pub fn place_of(rec: Record, lengths: &[u8; 16]) -> usize
+    ensures { λ r. ⌜ r ≡ indexIn (now (lengths .entry)) rec ⌝ }
+{
+    let section = rec.section;
+    match section {
+        4 => stage_index(lengths, rec.first, rec.second),
+        6 => stage_index(lengths, rec.second, rec.third),
+        _ => 0,
+    }
+}
+
+// What stands under the record's key: of a C the section of the last record, else an entry.
+fn held<'a>(
+    rec: Record,
+    section: u32,
+    s: Stage,
+    capacity: &'a [u8; 32],
+    lengths: &'a [u8; 16],
+    bounded: &'a [u8; 32],
+    rank: &'a [u8; 32],
+) -> u32
+    ensures { λ r. ⌜ r ≡ heldBy section (now (capacity .entry)) (now (lengths .entry)) (now (bounded .entry)) (now (rank .entry)) s rec ⌝ }
+{
+    let own = rec.section;
+    match own {
+        1 => section,
+        2 => entry_of(capacity, rec.first),
+        3 => entry_of(lengths, rec.first),
+        4 => entry_of(&s.demand, rec.third),
+        5 => entry_of(bounded, rec.first),
+        6 => entry_of(&s.weight, rec.first),
+        7 => entry_of(rank, rec.first),
+        _ => 0,
+    }
+}
+
+// With the stages of a T, are there at most 128 of all types together?
+fn within_total(rec: Record, lengths: &[u8; 16]) -> bool
+    ensures { λ r. ⌜ r ≡ withinTotal (now (lengths .entry)) rec ⌝ }
+{
+    if rec.section != 3 {
+        return true;
+    }
+    let total = stage_index(lengths, 17, 1);
+    if 128 < total {
+        return false;
+    }
+    total + rec.second as usize <= 128
+}
+
+// Question 6 of a record, and then 5 of all types together.
+fn entry_answer<'a>(
+    rec: Record,
+    section: u32,
+    s: Stage,
+    capacity: &'a [u8; 32],
+    lengths: &'a [u8; 16],
+    bounded: &'a [u8; 32],
+    rank: &'a [u8; 32],
+) -> TextAnswer
+    ensures { λ r. ⌜ r ≡ entryAnswer (heldBy section (now (capacity .entry)) (now (lengths .entry)) (now (bounded .entry)) (now (rank .entry)) s rec)
+        (now (lengths .entry)) rec ⌝ }
+{
+    let before = held(rec, section, s, capacity, lengths, bounded, rank);
+    let first = before == 0;
+    let within = within_total(rec, lengths);
+    if !first {
+        return TextAnswer::Repeated;
+    }
+    if !within {
+        return TextAnswer::OutOfRange;
+    }
+    TextAnswer::Accepted
+}
+
+// Questions 5 and 6 of a record, whose stage is s.
+pub fn record_answer<'a>(
+    rec: Record,
+    head: Head,
+    s: Stage,
+    capacity: &'a [u8; 32],
+    lengths: &'a [u8; 16],
+    bounded: &'a [u8; 32],
+    rank: &'a [u8; 32],
+) -> TextAnswer
+    ensures { λ r. ⌜ r ≡ recordAnswer (knownWith (head .counts) (now (capacity .entry)) (now (lengths .entry)))
+        (heldBy (head .section) (now (capacity .entry)) (now (lengths .entry)) (now (bounded .entry)) (now (rank .entry)) s rec)
+        (now (lengths .entry)) rec ⌝ }
+{
+    let counts = head.counts;
+    let within = in_ranges(rec, counts, capacity, lengths);
+    let rest = entry_answer(rec, head.section, s, capacity, lengths, bounded, rank);
+    if !within {
+        return TextAnswer::OutOfRange;
+    }
+    rest
+}
+
+// Has every row its bound?
+pub fn all_bounded(bounded: &[u8; 32], rows: u8) -> bool
+    ensures { λ r. ⌜ r ≡ allTo rows (λ (w : ℕ). leb 1 (at (now (bounded .entry)) w)) ⌝ }
+{
+    let n = rows as u32;
+    let mut w = 0;
+    while w < n {
+        if entry_of(bounded, w + 1) < 1 {
+            return false;
+        }
+        w += 1;
+    }
+    true
+}

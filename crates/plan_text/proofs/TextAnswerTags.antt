@@ -1,0 +1,24 @@
+-- What the code knows of a text's answer in the branch that is not for the acceptance: its tag is one of the others'.
+use Prim.Native.Nat.{ℕ}
+use mathlib.Core.Bool.{false}
+use mathlib.Core.List.{List, [], _∷_}
+use mathlib.Core.Path.{_≡_, refl}
+use types.Run.{OneOf, miss}
+use denote.Enum.Declared.{tagOf}
+use Rattle.plan_text.specs.ReaderParts.{isAccepted}
+use Rattle.plan_text.specs.declared.TextAnswer.{TextAnswer}
+use Rattle.plan_text.specs.declared.TextAnswer.the-variants.{Accepted, TooLong, BadLine, BadLetter, BadFields, OutOfRange, Repeated, Incomplete}
+use Rattle.plan_text.proofs.TextAnswer.{the-type}
+
+abbrev refusals : List ℕ
+refusals = 1 ∷ 2 ∷ 3 ∷ 4 ∷ 5 ∷ 6 ∷ 7 ∷ []
+
+pub refused-tag : (a : TextAnswer) → OneOf refusals (tagOf the-type a) → isAccepted a ≡ false
+refused-tag Accepted h = absurd (miss refusals 0 tt h)
+refused-tag TooLong h = refl
+refused-tag BadLine h = refl
+refused-tag BadLetter h = refl
+refused-tag BadFields h = refl
+refused-tag OutOfRange h = refl
+refused-tag Repeated h = refl
+refused-tag Incomplete h = refl

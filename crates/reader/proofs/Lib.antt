@@ -1,0 +1,2 @@
+-- What holds while a text is read.
+pub mod Going

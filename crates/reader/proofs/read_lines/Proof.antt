@@ -1,0 +1,300 @@
+-- Each turn finds a line, asks its questions in two groups and writes its record; what is left to read stays what was to be read.
+use Prim.Native.Nat.{ℕ, _+_, _-_, _≤_, _<_}
+use native.Mathlib.Omega.{arith}
+use mathlib.Core.Bool.{true, false}
+use mathlib.Core.List.{List, []}
+use mathlib.Core.Path.{_≡_, refl, sym, ap, subst, _∙_}
+use denote.Ref.{now}
+use lib.ListN.{length, getD, set}
+use Rattle.bytes.specs.Bytes.{slice, indexOf}
+use Rattle.model.specs.Plan.{noStage, emptyPlan}
+use Rattle.model.specs.declared.Stage.{Stage}
+use Rattle.model.specs.declared.Plan.{Plan}
+use Rattle.model.proofs.Lists.{entry-there}
+use Rattle.plan_text.specs.Lines.{Line, lineEnd}
+use Rattle.plan_text.specs.Records.{inRanges}
+use Rattle.plan_text.specs.Written.{Draft, emptyDraft, entriesAfter, boundedAfter, stageAfter, heldBy, heldIn, indexIn, written}
+use Rattle.plan_text.specs.Reading.{refused, isComplete, readFrom}
+use Rattle.plan_text.specs.ReaderParts.{isAccepted, formAnswer, recordAnswer, narrowed, headAfter, draftWith, knownWith}
+use Rattle.plan_text.specs.declared.Record.{Record}
+use Rattle.plan_text.specs.declared.Form.{Form}
+use Rattle.plan_text.specs.declared.TextAnswer.{TextAnswer}
+use Rattle.plan_text.proofs.LineByLine.{end-within}
+use Rattle.plan_text.proofs.ReaderSteps.{place-within, parts-written}
+use Rattle.plan_text.proofs.TextAnswerTags.{refused-tag}
+use Rattle.reader.proofs.Going.{Going, going-start, read-out, lineAt, recordAt, answerAt, same-answer, record-met, form-refuses, record-refuses, goes-on}
+use borrow.Author.Needs.{needs}
+use Rattle.reader.proofs.read_lines.Statement.{statement}
+use Rattle.reader.proofs.read_lines.Tie as tie
+
+abbrev Inv-loop : tie.InvT-loop
+Inv-loop text head₀ capacity₀ rank₀ bound₀ lengths₀ bounded₀ stages₀ line₀ at₀ head capacity rank bound lengths bounded stages line at =
+    Going text (draftWith head capacity rank bound lengths stages bounded) line at
+
+abbrev μ-loop : tie.MeasureT-loop
+μ-loop text head₀ capacity₀ rank₀ bound₀ lengths₀ bounded₀ stages₀ line₀ at₀ head capacity rank bound lengths bounded stages line at =
+    length text - at
+
+-- at the head of the loop
+module _ (c : tie.At-loop Inv-loop μ-loop) where
+  abbrev text : List ℕ
+  text = now (c .before .before .before .before .before .args .text)
+
+  abbrev draft : Draft
+  draft = let l = c .loop in draftWith (l .head) (l .capacity) (l .rank) (l .bound) (l .lengths) (l .stages) (l .bounded)
+
+  short : length text ≤ 65536
+  short = c .before .before .before .before .before .pre
+
+  going : Going text draft (c .loop .line) (c .loop .at)
+  going = c .loop .inv
+
+-- where the form of a line is told
+module _ (c : tie.After-form-at Inv-loop μ-loop) where
+  abbrev turn : tie.At-loop Inv-loop μ-loop
+  turn = c .before .before .before
+
+  abbrev search-ended : tie.After-find Inv-loop μ-loop
+  search-ended = c .before
+
+  turning : Going (text turn) (draft turn) (turn .loop .line) (turn .loop .at)
+  turning = going turn
+
+  abbrev end : ℕ
+  end = search-ended .find .result
+
+  there : turn .loop .at < length (text turn)
+  there = c .before .before .loop-test .taken
+
+  found : end ≡ turn .loop .at + indexOf lineEnd (slice (turn .loop .at) (length (text turn)) (text turn))
+  found = search-ended .find .ensures .0
+
+  abbrev line : Line
+  line = lineAt (text turn) (draft turn) (turn .loop .line) (turn .loop .at) turning end there found
+
+  form-told : c .form-at .result .answer ≡ formAnswer (turn .loop .head .section) line
+  form-told = ap (λ (f : Form). f .answer) (c .form-at .ensures)
+
+-- where questions 5 and 6 are answered
+module _ (c : tie.After-record-answer Inv-loop μ-loop) where
+  abbrev placed : tie.After-place-within Inv-loop μ-loop
+  placed = c .before .before .before .before .before .before
+
+  abbrev told : tie.After-enum-told Inv-loop μ-loop
+  told = placed .before .before
+
+  abbrev f : tie.After-form-at Inv-loop μ-loop
+  f = told .before .before .before
+
+  abbrev t : tie.At-loop Inv-loop μ-loop
+  t = turn f
+
+  formed : isAccepted (formAnswer (t .loop .head .section) (line f)) ≡ true
+  formed = sym (ap isAccepted (form-told f)) ∙ ap isAccepted (told .enum-told .given .1)
+
+  abbrev read : Record
+  read = f .form-at .result .read
+
+  abbrev there-read : Record
+  there-read = recordAt (text t) (draft t) (t .loop .line) (t .loop .at) (turning f) (end f) (there f) (found f)
+
+  read-told : read ≡ there-read
+  read-told = ap (λ (x : Form). x .read) (f .form-at .ensures) ∙ rw formed refl
+
+  abbrev place : ℕ
+  place = placed .place-within .result
+
+  searched : (t .loop .at ≤ end f) × (end f ≤ length (text t)) × (t .loop .at < length (text t))
+  searched = let w = end-within (text t) (t .loop .at) (end f) (found f) (there f) in (w .0, w .1, there f)
+
+  -- the place is that of the record's stage, and the stage copied is the one that stands there
+  place-told : inRanges (knownWith (t .loop .head .counts) (t .loop .capacity) (t .loop .lengths)) read ≡ true → place ≡ indexIn (t .loop .lengths) read
+  place-told met =
+      placed .place-within .ensures .1
+      (place-within (knownWith (t .loop .head .counts) (t .loop .capacity) (t .loop .lengths)) read met (turning f .types) (turning f .few))
+
+  -- a copy of a stage is the stage that stands there, whatever would stand for one beyond the array
+  copied : (e : Stage) → getD (t .loop .stages) place e ≡ getD (t .loop .stages) place noStage
+  copied e = entry-there (t .loop .stages) place e noStage (omega (arith, placed .place-within .ensures .0, turning f .stages))
+
+  held-told : (e : Stage) → inRanges (knownWith (t .loop .head .counts) (t .loop .capacity) (t .loop .lengths)) read ≡ true
+      → heldBy (t .loop .head .section) (t .loop .capacity) (t .loop .lengths) (t .loop .bounded) (t .loop .rank) (getD (t .loop .stages) place e) read
+      ≡ heldIn (draft t) read
+  unfolding heldIn
+  held-told e met =
+      ap (λ s. heldBy (t .loop .head .section) (t .loop .capacity) (t .loop .lengths) (t .loop .bounded) (t .loop .rank) s read)
+      (copied e ∙ ap (λ i. getD (t .loop .stages) i noStage) (place-told met))
+
+  answer-told : c .record-answer .result ≡ answerAt (text t) (draft t) (t .loop .line) (t .loop .at) (turning f) (end f) (there f) (found f)
+  answer-told =
+      c .record-answer .ensures
+      ∙ same-answer (knownWith (t .loop .head .counts) (t .loop .capacity) (t .loop .lengths)) (t .loop .lengths) read _ (heldIn (draft t) read) (held-told _)
+      ∙ ap (λ r. recordAnswer (knownWith (t .loop .head .counts) (t .loop .capacity) (t .loop .lengths)) (heldIn (draft t) r) (t .loop .lengths) r) read-told
+
+  -- where they are met, the parts of the draft are written as the record says
+  record-written : isAccepted (answerAt (text t) (draft t) (t .loop .line) (t .loop .at) (turning f) (end f) (there f) (found f)) ≡ true
+      → (s e : Stage) → s ≡ stageAfter (getD (t .loop .stages) place e) (narrowed read)
+      → draftWith (headAfter (t .loop .head) read) (entriesAfter 2 (t .loop .capacity) (narrowed read)) (entriesAfter 7 (t .loop .rank) (narrowed read))
+      (entriesAfter 5 (t .loop .bound) (narrowed read)) (entriesAfter 3 (t .loop .lengths) (narrowed read)) (set (t .loop .stages) place s)
+      (boundedAfter (t .loop .bounded) read)
+      ≡ written (draft t) there-read
+  record-written accepted s e made =
+      let k = knownWith (t .loop .head .counts) (t .loop .capacity) (t .loop .lengths) in
+      let met = ap (inRanges k) read-told ∙ record-met k (t .loop .lengths) there-read (heldIn (draft t) there-read) accepted .0 in
+      parts-written (t .loop .head) (t .loop .capacity) (t .loop .rank) (t .loop .bound) (t .loop .lengths) (t .loop .stages) (t .loop .bounded) read (turning f .small) met place (place-told met) s (made ∙ ap (λ x. stageAfter x (narrowed read)) (copied e))
+      ∙ ap (written (draft t)) read-told
+
+no-head-requires : tie.Need-no-head-requires Inv-loop μ-loop
+no-head-requires c κs = search needs
+
+empty-plan-requires : tie.Need-empty-plan-requires Inv-loop μ-loop
+empty-plan-requires c κs = search needs
+
+loop-holds : tie.Need-loop-holds Inv-loop μ-loop
+unfolding emptyDraft emptyPlan
+loop-holds c =
+    rw (ap (λ (p : Plan). p .stages) (c .before .empty-plan .ensures), c .before .before .no-head .ensures)
+    (going-start (now (c .before .before .before .before .args .text)))
+
+find-requires : tie.Need-find-requires Inv-loop μ-loop
+find-requires c κs = search needs
+
+add-line : tie.Need-add-line Inv-loop μ-loop
+add-line c = search needs
+
+form-at-requires : tie.Need-form-at-requires Inv-loop μ-loop
+form-at-requires c κs = search needs
+
+enum-told : tie.Need-enum-told Inv-loop μ-loop
+enum-told c = search needs
+
+refusal-requires : tie.Need-refusal-requires Inv-loop μ-loop
+refusal-requires c κs = search needs
+
+returns : tie.Need-returns Inv-loop μ-loop
+returns c =
+    let f = c .before .before .before in
+    let t = turn f in
+    let e = form-told f in
+    let no-form = sym (ap isAccepted e) ∙ refused-tag (f .form-at .result .answer) (c .before .match .keys2) in
+    c .refusal .ensures
+    ∙ ap (λ (a : TextAnswer). refused a (t .loop .line + 1) (t .loop .at) (end f)) e
+    ∙ form-refuses (text t) (draft t) (t .loop .line) (t .loop .at) (turning f) (end f) (there f) (found f) no-form
+
+place-within-requires : tie.Need-place-within-requires Inv-loop μ-loop
+place-within-requires c κs = search needs
+
+mul-s : tie.Need-mul-s Inv-loop μ-loop
+mul-s c = search needs
+
+array-copy-out-s : tie.Need-array-copy-out-s Inv-loop μ-loop
+array-copy-out-s c = search needs
+
+record-answer-requires : tie.Need-record-answer-requires Inv-loop μ-loop
+record-answer-requires c κs = search needs
+
+enum-told-2 : tie.Need-enum-told-2 Inv-loop μ-loop
+enum-told-2 c = search needs
+
+refusal-requires-2 : tie.Need-refusal-requires-2 Inv-loop μ-loop
+refusal-requires-2 c κs = search needs
+
+returns-2 : tie.Need-returns-2 Inv-loop μ-loop
+returns-2 c =
+    let a = c .before .before in
+    let l = t a in
+    let told = answer-told a in
+    let refuses = sym (ap isAccepted told) ∙ refused-tag (a .record-answer .result) (c .before .match2 .keys2) in
+    c .refusal2 .ensures
+    ∙ ap (λ (x : TextAnswer). refused x (l .loop .line + 1) (l .loop .at) (end (f a))) told
+    ∙ record-refuses (text l) (draft l) (l .loop .line) (l .loop .at) (turning (f a)) (end (f a)) (there (f a)) (found (f a)) (formed a) refuses
+
+stage-after-requires : tie.Need-stage-after-requires Inv-loop μ-loop
+stage-after-requires c κs = search needs
+
+mul-stages : tie.Need-mul-stages Inv-loop μ-loop
+mul-stages c = search needs
+
+array-set-from-stages : tie.Need-array-set-from-stages Inv-loop μ-loop
+array-set-from-stages c = search needs
+
+write-entries-requires : tie.Need-write-entries-requires Inv-loop μ-loop
+write-entries-requires c κs = search needs
+
+write-bound-requires : tie.Need-write-bound-requires Inv-loop μ-loop
+write-bound-requires c κs = search needs
+
+head-after-requires : tie.Need-head-after-requires Inv-loop μ-loop
+head-after-requires c κs = search needs
+
+add-at : tie.Need-add-at Inv-loop μ-loop
+add-at c =
+    let d = c .before .before .before .before .before .before .before .before .before .before .before in
+    omega (arith, searched d, short (t d))
+
+loop-less : tie.Need-loop-less Inv-loop μ-loop
+loop-less c = let d = c .before .before .before .before .before .before .before .before .before .before .before in omega (arith, searched d)
+
+loop-again : tie.Need-loop-again Inv-loop μ-loop
+loop-again c =
+    let bounds = c .before .write-bound .ensures in
+    let wrote = c .before .before .before .before in
+    let staged = wrote .before .before .before .before in
+    let a = staged .before .before .before in
+    let l = t a in
+    let e = wrote .write-entries .ensures in
+    let accepted = sym (ap isAccepted (answer-told a)) ∙ ap isAccepted (staged .before .enum-told2 .given .1) in
+    goes-on (text l) (draft l) (l .loop .line) (l .loop .at) (turning (f a)) (end (f a)) (there (f a)) (found (f a)) (formed a) accepted _
+    ((λ i.
+    draftWith (c .head-after .ensures i) (e .0 i) (e .1 .1 i) (bounds .0 i) (e .1 .0 i) (set (l .loop .stages) (place a) (staged .stage-after .result))
+    (bounds .1 i))
+    ∙ record-written a accepted (staged .stage-after .result) _ (staged .stage-after .ensures))
+
+plan-with-requires : tie.Need-plan-with-requires Inv-loop μ-loop
+plan-with-requires c κs = search needs
+
+finished-requires : tie.Need-finished-requires Inv-loop μ-loop
+finished-requires c κs = let l = c .before .before .before in omega (arith, going l .counted, going l .within, short l)
+
+returns-3 : tie.Need-returns-3 Inv-loop μ-loop
+unfolding isComplete
+returns-3 c =
+    let l = c .before .before .before .before in
+    c .finished .ensures
+    ∙ ap (λ (p : Plan). readFrom (l .loop .line) 0 (record { plan = p; bounded = l .loop .bounded; section = 0 }) []) (c .before .before .plan-with .ensures)
+    ∙ read-out (text l) (draft l) (l .loop .line) (l .loop .at) (going l) (c .before .before .before .loop-test .left)
+
+pub read-lines-spec : {M : Type 1} → statement M
+read-lines-spec =
+    tie.close
+    (tie.spec
+    Inv-loop
+    μ-loop
+    no-head-requires
+    empty-plan-requires
+    loop-holds
+    find-requires
+    add-line
+    form-at-requires
+    enum-told
+    refusal-requires
+    returns
+    place-within-requires
+    mul-s
+    array-copy-out-s
+    record-answer-requires
+    enum-told-2
+    refusal-requires-2
+    returns-2
+    stage-after-requires
+    mul-stages
+    array-set-from-stages
+    write-entries-requires
+    write-bound-requires
+    head-after-requires
+    add-at
+    loop-less
+    loop-again
+    plan-with-requires
+    finished-requires
+    returns-3)

@@ -1,0 +1,163 @@
+// The reader of plan texts: one pass over the lines. A line's questions are answered from the counts, the capacities, the stages
+// per type and the one entry that it names, and its record writes that entry.
+ghost use mathlib.Core.List.{[]};
+ghost use mathlib.Core.Path.{_≡_};
+ghost use Prim.Native.Nat.{_-_, _<_, _≤_};
+ghost use lib.Dec.{ltb};
+ghost use lib.ListN.{length, take, drop};
+ghost use Rattle.plan_text.specs.Lines.{linesOf};
+ghost use Rattle.plan_text.specs.Written.{emptyDraft, indexIn};
+ghost use Rattle.plan_text.specs.Reading.{refused, readFrom, reading};
+ghost use Rattle.plan_text.specs.ReaderParts.{formOf, planWith};
+use bytes::scan::find;
+use model::Plan;
+use model::Stage;
+use plan_entries::all_bounded;
+use plan_entries::place_of;
+use plan_entries::record_answer;
+use plan_text::Counts;
+use plan_text::Form;
+use plan_text::Head;
+use plan_text::Reading;
+use plan_text::Record;
+use plan_text::TextAnswer;
+use plans::empty_plan;
+use record_lines::form_of;
+use record_writes::head_after;
+use record_writes::stage_after;
+use record_writes::write_bound;
+use record_writes::write_entries;
+use soundness::is_sound;
+
+fn refusal(answer: TextAnswer, line: u32, from: usize, to: usize) -> Reading
+    ensures { λ r. ⌜ r ≡ refused answer line from to ⌝ }
+{
+    Reading {
+        answer,
+        line,
+        from,
+        to,
+        plan: empty_plan(),
+    }
+}
+
+// Question 7, asked of the draft after the last line.
+fn finished(plan: Plan, bounded: &[u8; 32], line: u32) -> Reading
+    requires { ⌜ line < 4294967295 ⌝ }
+    ensures { λ r. ⌜ r ≡ readFrom line 0 (record { plan = plan; bounded = now (bounded .entry); section = 0 }) [] ⌝ }
+{
+    if !is_sound(plan) {
+        return refusal(TextAnswer::Incomplete, line + 1, 0, 0);
+    }
+    if !all_bounded(bounded, plan.rows) {
+        return refusal(TextAnswer::Incomplete, line + 1, 0, 0);
+    }
+    Reading {
+        answer: TextAnswer::Accepted,
+        line: 0,
+        from: 0,
+        to: 0,
+        plan,
+    }
+}
+
+// Where the record's stage stands; 0 where that is beyond the stages, which its ranges then refuse.
+fn place_within(rec: Record, lengths: &[u8; 16]) -> usize
+    ensures { λ r. ⌜ (r < 128) × (indexIn (now (lengths .entry)) rec < 128 → r ≡ indexIn (now (lengths .entry)) rec) ⌝ }
+{
+    let place = place_of(rec, lengths);
+    if place < 128 { place } else { 0 }
+}
+
+// Questions 2 to 4 of the line that ends at `end`, where its LF stands or the text ends.
+fn form_at(text: &[u8], at: usize, end: usize, section: u32) -> Form
+    requires { ⌜ (at ≤ end) × (end ≤ length (now text)) ⌝ }
+    ensures { λ r. ⌜ r ≡ formOf section (record { bytes = take (end - at) (drop at (now (text .entry))); ended = ltb end (length (now (text .entry))) }) ⌝ }
+{
+    form_of(&text[at..end], end < text.len(), section)
+}
+
+// The plan that was filled in.
+fn plan_with(
+    head: Head,
+    capacity: [u8; 32],
+    rank: [u8; 32],
+    bound: [u16; 32],
+    lengths: [u8; 16],
+    stages: [Stage; 128],
+) -> Plan
+    ensures { λ r. ⌜ r ≡ planWith (head .counts) capacity rank bound lengths stages ⌝ }
+{
+    let counts = head.counts;
+    Plan {
+        resources: counts.resources,
+        types: counts.types,
+        rows: counts.rows,
+        capacity,
+        rank,
+        bound,
+        lengths,
+        stages,
+    }
+}
+
+// What is said before the first record.
+fn no_head() -> Head
+    ensures { λ r. ⌜ r ≡ record { counts = record { resources = 0; types = 0; rows = 0 }; section = 0 } ⌝ }
+{
+    let counts = Counts {
+        resources: 0,
+        types: 0,
+        rows: 0,
+    };
+    Head { counts, section: 0 }
+}
+
+fn read_lines(text: &[u8]) -> Reading
+    requires { do ⌜ (← ⟦text.len()⟧) ≤ 65536 ⌝ }
+    ensures { λ r. ⌜ r ≡ readFrom 0 0 emptyDraft (linesOf (now (text .entry))) ⌝ }
+{
+    let mut head = no_head();
+    let mut capacity = [0u8; 32];
+    let mut rank = [0u8; 32];
+    let mut bound = [0u16; 32];
+    let mut lengths = [0u8; 16];
+    let mut bounded = [0u8; 32];
+    let none = empty_plan();
+    let mut stages = none.stages;
+    let mut line = 0;
+    let mut at = 0;
+    while at < text.len() {
+        let end = find(text, at, text.len(), b'\n');
+        line += 1;
+        let form = form_at(text, at, end, head.section);
+        let rec = form.read;
+        let answer = form.answer;
+        let TextAnswer::Accepted = answer else {
+            return refusal(answer, line, at, end);
+        };
+        let i = place_within(rec, &lengths);
+        let s = stages[i];
+        let answer = record_answer(rec, head, s, &capacity, &lengths, &bounded, &rank);
+        let TextAnswer::Accepted = answer else {
+            return refusal(answer, line, at, end);
+        };
+        stages[i] = stage_after(s, rec);
+        write_entries(rec, &mut capacity, &mut lengths, &mut rank);
+        write_bound(rec, &mut bound, &mut bounded);
+        head = head_after(head, rec);
+        at = end + 1;
+    }
+    let plan = plan_with(head, capacity, rank, bound, lengths, stages);
+    finished(plan, &bounded, line)
+}
+
+// A plan text read: the answer with the line that decides it and that line's place in the text, and the plan.
+pub fn read(text: &[u8]) -> Reading
+    ensures { λ r. ⌜ r ≡ reading (now (text .entry)) ⌝ }
+{
+    if 65536 < text.len() {
+        return refusal(TextAnswer::TooLong, 0, 0, 0);
+    }
+    read_lines(text)
+}

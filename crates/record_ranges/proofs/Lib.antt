@@ -1,0 +1,3 @@
+-- The laws behind the test of the ranges.
+pub mod TableRule
+pub mod InRanges

@@ -1,0 +1,2 @@
+-- What the table has for a section's fields.
+pub mod Table

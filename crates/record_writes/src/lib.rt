@@ -1,0 +1,104 @@
+// What a record writes into a plan: one entry of a list, or of a stage, or the counts. Any record may be handed in.
+ghost use mathlib.Core.Path.{_≡_};
+ghost use Prim.Native.Nat.{_%_};
+ghost use Rattle.plan_text.specs.Written.{put, entriesAfter, boundedAfter, stageAfter};
+ghost use Rattle.plan_text.specs.ReaderParts.{narrowed, countsAfter, headAfter};
+use entries::put_bound;
+use entries::put_entry;
+use model::Stage;
+use plan_text::Counts;
+use plan_text::Head;
+use plan_text::Record;
+
+fn with_entry(xs: [u8; 32], number: u32, x: u8) -> [u8; 32]
+    ensures { λ r. ⌜ r ≡ put xs number x ⌝ }
+{
+    let mut next = xs;
+    put_entry(&mut next, number, x);
+    next
+}
+
+// The stage with the demand of an S or the weight of an A.
+pub fn stage_after(s: Stage, rec: Record) -> Stage
+    ensures { λ r. ⌜ r ≡ stageAfter s (narrowed rec) ⌝ }
+{
+    let section = rec.section;
+    let x = (rec.fourth % 256) as u8;
+    let demand = s.demand;
+    let weight = s.weight;
+    match section {
+        4 => Stage {
+            demand: with_entry(demand, rec.third, x),
+            weight,
+        },
+        6 => Stage {
+            demand,
+            weight: with_entry(weight, rec.first, x),
+        },
+        _ => s,
+    }
+}
+
+// The capacities, the stages per type and the ranks after a record.
+pub fn write_entries<'a>(
+    rec: Record,
+    capacity: &'a mut [u8; 32],
+    lengths: &'a mut [u8; 16],
+    rank: &'a mut [u8; 32],
+)
+    ensures { λ _. ⌜ now (capacity .exit) ≡ entriesAfter 2 (now (capacity .entry)) (narrowed rec) ⌝ }
+    ensures { λ _. ⌜ now (lengths .exit) ≡ entriesAfter 3 (now (lengths .entry)) (narrowed rec) ⌝ }
+    ensures { λ _. ⌜ now (rank .exit) ≡ entriesAfter 7 (now (rank .entry)) (narrowed rec) ⌝ }
+{
+    let section = rec.section;
+    let x = (rec.second % 256) as u8;
+    match section {
+        2 => put_entry(capacity, rec.first, x),
+        3 => put_entry(lengths, rec.first, x),
+        7 => put_entry(rank, rec.first, x),
+        _ => {}
+    }
+}
+
+// The bounds after a record, and the rows that have theirs.
+pub fn write_bound<'a>(rec: Record, bound: &'a mut [u16; 32], bounded: &'a mut [u8; 32])
+    ensures { λ _. ⌜ now (bound .exit) ≡ entriesAfter 5 (now (bound .entry)) (narrowed rec) ⌝ }
+    ensures { λ _. ⌜ now (bounded .exit) ≡ boundedAfter (now (bounded .entry)) rec ⌝ }
+{
+    if rec.section == 5 {
+        put_bound(bound, rec.first, (rec.second % 65536) as u16);
+        put_entry(bounded, rec.first, 1);
+    }
+}
+
+// The counts after a record: those of a C.
+fn counts_after(counts: Counts, rec: Record) -> Counts
+    ensures { λ r. ⌜ r ≡ countsAfter counts rec ⌝ }
+{
+    if rec.section != 1 {
+        return counts;
+    }
+    Counts {
+        resources: (rec.first % 256) as u8,
+        types: (rec.second % 256) as u8,
+        rows: (rec.third % 256) as u8,
+    }
+}
+
+// The counts and the section of the last record; a skipped line leaves them.
+pub fn head_after(head: Head, rec: Record) -> Head
+    ensures { λ r. ⌜ r ≡ headAfter head rec ⌝ }
+{
+    let counts = head.counts;
+    let counts = counts_after(counts, rec);
+    if rec.section == 0 {
+        return Head {
+            counts,
+            section: head.section,
+        };
+    }
+    Head {
+        counts,
+        section: rec.section,
+    }
+}
