@@ -4,7 +4,7 @@
 use Prim.Native.Nat.{ℕ, zero, suc, _≤_, _<_}
 use native.Mathlib.Omega.{arith}
 use mathlib.Core.Bool.{Bool, true, false, not, cond, _&&_, _||_, false≢true}
-use mathlib.Core.List.{List, [], _∷_}
+use mathlib.Core.List.{List, [], _∷_, _++_}
 use mathlib.Core.Logic.{_⊎_, inl, inr, ⊎-elim}
 use mathlib.Core.Path.{_≡_, refl, sym, subst, subst⁻¹, _∙_}
 use lib.ListN.{drop}
@@ -198,15 +198,29 @@ abbrev pub AllHold : {A : Type 0} → List (Condition A) → Type 0
 AllHold [] = Unit {0}
 AllHold (c ∷ cs) = c .holds × AllHold cs
 
+-- one question, and others after it
+pub choose : {A P : Type 0} {b : Bool} (F R : A → Type 0) (x y : A) → Decides P b → ((¬ P) → R y) → (P → F x)
+    → ((¬ P) × R (cond b x y)) ⊎ (P × F (cond b x y))
+choose F R x y (holding h) refusal rest = inr (h, rest h)
+choose F R x y (failing h) refusal rest = inl (h, refusal h)
+
+-- first some questions, then others
+pub failure-append : {A : Type 0} (Ok : A → Type 0) (cs ds : List (Condition A)) (a : A)
+    → FirstFailure (FirstFailure Ok ds) cs a → FirstFailure Ok (cs ++ ds) a
+failure-append Ok [] ds a h = h
+failure-append Ok (c ∷ cs) ds a (inl h) = inl h
+failure-append Ok (c ∷ cs) ds a (inr h) = inr (h .0, failure-append Ok cs ds a (h .1))
+
 module _ {A : Type 0} (isOk : A → Bool) (ok : A) where
-  choose : {P : Type 0} {b : Bool} (F R : A → Type 0) (x y : A) → Decides P b → ((¬ P) → R y) → (P → F x) → ((¬ P) × R (cond b x y)) ⊎ (P × F (cond b x y))
-  choose F R x y (holding h) refusal rest = inr (h, rest h)
-  choose F R x y (failing h) refusal rest = inl (h, refusal h)
+  -- what is wanted of the acceptance is wanted only where all questions are met
+  pub first-failure-then : (Ok : A → Type 0) {qs : List (Question A)} {cs : List (Condition A)} → Answers isOk qs cs → (AllHold cs → Ok ok)
+      → FirstFailure Ok cs (answerOf ok qs)
+  first-failure-then Ok done good = good tt
+  first-failure-then Ok (asked {q} {c} {qs} {cs} d r o rest) good =
+      choose (FirstFailure Ok cs) (c .refusal) (answerOf ok qs) (q .refusal) d r (λ h. first-failure-then Ok (rest h) (λ all. good (h, all)))
 
   pub first-failure : (Ok : A → Type 0) → Ok ok → {qs : List (Question A)} {cs : List (Condition A)} → Answers isOk qs cs → FirstFailure Ok cs (answerOf ok qs)
-  first-failure Ok good done = good
-  first-failure Ok good (asked {q} {c} {qs} {cs} d r o rest) =
-      choose (FirstFailure Ok cs) (c .refusal) (answerOf ok qs) (q .refusal) d r (λ h. first-failure Ok good (rest h))
+  first-failure Ok good answers = first-failure-then Ok answers (λ all. good)
 
   pub accepted : {qs : List (Question A)} {cs : List (Condition A)} → Answers isOk qs cs → AllHold cs → answerOf ok qs ≡ ok
   accepted done h = refl

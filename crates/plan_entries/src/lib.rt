@@ -106,12 +106,9 @@ pub fn record_answer<'a>(
         (now (lengths .entry)) rec ⌝ }
 {
     let counts = head.counts;
-    let within = in_ranges(rec, counts, capacity, lengths);
+    let ranged = in_ranges(rec, counts, capacity, lengths);
     let rest = entry_answer(rec, head.section, s, capacity, lengths, bounded, rank);
-    if !within {
-        return TextAnswer::OutOfRange;
-    }
-    rest
+    if ranged { rest } else { TextAnswer::OutOfRange }
 }
 
 // Has every row its bound?

@@ -1,36 +1,27 @@
 -- What an accepted text is: its records were taken one by one and are complete, so its plan is sound and holds a value exactly
 -- when the text has the record; and two accepted texts with the same records have the same plan.
-use Prim.Native.Nat.{ℕ, zero, suc, _+_, _-_, _≤_, _<_}
+use Prim.Native.Nat.{ℕ, _+_, _≤_, _<_}
 use native.Mathlib.Omega.{arith}
-use mathlib.Core.Bool.{Bool, true, false, cond, false≢true}
+use mathlib.Core.Bool.{Bool, true, cond, false≢true}
 use mathlib.Core.List.{List, [], _∷_, _++_, append-assoc, append-nil}
-use mathlib.Core.Logic.{_≢_, _⊎_, inl, inr, ⊎-elim, _↔_}
-use mathlib.Core.Path.{_≡_, refl, sym, ap, subst, _∙_}
-use lib.Dec.{eqb, leb}
-use lib.ListN.{length, drop, getD, replicate}
-use lib.Seq.{ext-getD}
+use mathlib.Core.Path.{_≡_, refl, sym, ap}
+use lib.ListN.{length, drop}
 use borrow.Author.Tests.{lt-leb, eq-eqb}
-use Rattle.model.specs.Limits.{maxResources, maxTypes, maxRows, maxAllStages}
-use Rattle.model.specs.Numbers.{InRange, entry, at, sumTo, Each}
-use Rattle.model.specs.Plan.{noStage, emptyPlan, capacityOf, rankOf, boundOf, lengthOf, IsStage, allStages, stageOf, demandOf, weightOf}
+use Rattle.model.specs.Numbers.{at}
 use Rattle.model.specs.Soundness.{Sound}
-use Rattle.model.specs.declared.Stage.{Stage}
-use Rattle.model.specs.declared.Plan.{Plan}
-use Rattle.model.proofs.Decide.{Decides, holding, failing, decided, decides-eq, decides-le}
+use Rattle.model.proofs.Decide.{Decides, holding, failing, decides-le}
 use Rattle.model.proofs.Decide as decide
 use Rattle.plan_text.specs.Lines.{Line, linesOf, isSkipped}
-use Rattle.plan_text.specs.Records.{knownOf, InRanges, recordIn, Has}
-use Rattle.plan_text.specs.Written.{Draft, emptyDraft, draftOf, planOf, written}
-use Rattle.plan_text.specs.TextQuestions.{maxText, textNumber, recordsOf, HasOne, Complete}
-use Rattle.plan_text.specs.Reading.{refused, accepted, lineQuestions, isComplete, readFrom, reading}
-use Rattle.plan_text.specs.Meaning.{line, Says, SameRecords}
+use Rattle.plan_text.specs.Records.{recordIn}
+use Rattle.plan_text.specs.Written.{emptyDraft, draftOf, planOf, written}
+use Rattle.plan_text.specs.TextQuestions.{maxText, textNumber, recordsOf, Complete}
+use Rattle.plan_text.specs.Reading.{refused, accepted, readFrom, reading}
 use Rattle.plan_text.specs.declared.Record.{Record}
 use Rattle.plan_text.specs.declared.TextAnswer.the-variants.{TooLong, Incomplete}
 use Rattle.plan_text.specs.declared.Reading.{Reading}
-use Rattle.plan_text.proofs.RecordLists.{has-each}
-use Rattle.plan_text.proofs.Kept.{Entry, Bounded, Place, Half, demandHalf, weightHalf, InPlace, Ranged, Kept}
+use Rattle.plan_text.proofs.Kept.{Kept}
 use Rattle.plan_text.proofs.KeptAfter.{nothing-kept}
-use Rattle.plan_text.proofs.Completeness.{decides-complete, complete-sound, counted-section}
+use Rattle.plan_text.proofs.Completeness.{decides-complete, complete-sound}
 use Rattle.plan_text.proofs.FirstFailure.{isOk, line-answers, goes-on, shown-line, next-lines, records-more}
 
 -- the records of a text that is read to its end
@@ -44,7 +35,8 @@ module _ (text : List ℕ) where
       → Whole (rs ++ []) (readFrom n from (draftOf rs) [])
   whole-end rs n from kept = go (decides-complete rs kept)
     where
-      go : {b : Bool} → Decides (Complete rs) b → let a = cond b (accepted (draftOf rs .plan)) (refused Incomplete (n + 1) 0 0) in isOk a ≡ true → Whole (rs ++ []) a
+      go : {b : Bool} → Decides (Complete rs) b
+          → let a = cond b (accepted (draftOf rs .plan)) (refused Incomplete (n + 1) 0 0) in isOk a ≡ true → Whole (rs ++ []) a
       go (holding c) e = rw (append-nil rs) (record { kept = kept; complete = c; handed = refl })
       go (failing c) e = absurd (false≢true e)
 

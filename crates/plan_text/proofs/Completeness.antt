@@ -1,23 +1,18 @@
 -- Question 7: after records that were taken one by one the plan is sound, and every row has its bound, exactly when the records
 -- are complete. What a sound plan asks beyond that holds of every draft.
-use Prim.Native.Nat.{ℕ, zero, suc, _+_, _-_, _≤_, _<_}
+use Prim.Native.Nat.{ℕ, zero, suc, _≤_, _<_}
 use native.Mathlib.Omega.{arith}
-use mathlib.Core.Bool.{Bool, true, false, _&&_}
-use mathlib.Core.List.{List, [], _∷_}
-use mathlib.Core.Logic.{_≢_, _⊎_, inl, inr, ⊎-elim, _↔_}
-use mathlib.Core.Path.{_≡_, refl, sym, ap, subst, _∙_}
-use lib.Dec.{leb}
-use lib.ListN.{getD, replicate}
-use Rattle.model.specs.Limits.{maxResources, maxTypes, maxRows, maxStages, maxAllStages, maxUnits, maxBound}
-use Rattle.model.specs.Numbers.{InRange, entry, at, allTo, Each}
+use mathlib.Core.List.{List}
+use mathlib.Core.Logic.{_⊎_, inl, inr, ⊎-elim, _↔_}
+use mathlib.Core.Path.{_≡_, refl, ap, subst, _∙_}
+use Rattle.model.specs.Limits.{maxBound}
+use Rattle.model.specs.Numbers.{InRange, entry, at, Each}
 use Rattle.model.specs.Plan.{noStage, emptyPlan, capacityOf, rankOf, boundOf, lengthOf, IsStage, allStages, stageOf, demandOf, weightOf}
-use Rattle.model.specs.Soundness.{ZeroBeyond, EmptyStage, AllRanked, NoneRanked, SoundStage, Sound, sound}
-use Rattle.model.specs.declared.Stage.{Stage}
+use Rattle.model.specs.Soundness.{EmptyStage, AllRanked, NoneRanked, SoundStage, Sound}
 use Rattle.model.specs.declared.Plan.{Plan}
 use Rattle.model.proofs.Decide.{Decides, decided, holds, decides-iff, decides-eq, decides-le, decides-all, _and_}
-use Rattle.model.proofs.Lists.{replicated}
 use Rattle.model.proofs.Soundness.{decides-sound, decides-empty-stage}
-use Rattle.plan_text.specs.Records.{Known, knownOf, InRanges, Some, Has}
+use Rattle.plan_text.specs.Records.{Known, knownOf, InRanges, Has}
 use Rattle.plan_text.specs.Written.{Draft, emptyDraft, draftOf}
 use Rattle.plan_text.specs.TextQuestions.{HasSection, HasOne, HasTwo, Complete}
 use Rattle.plan_text.specs.Reading.{isComplete}
@@ -25,7 +20,7 @@ use Rattle.plan_text.specs.Meaning.{line}
 use Rattle.plan_text.specs.declared.Record.{Record}
 use Rattle.plan_text.proofs.RecordLists.{each-some, some-map, has-each}
 use Rattle.plan_text.proofs.Sections.{of-section, Blank}
-use Rattle.plan_text.proofs.Kept.{Entry, Bounded, Place, Half, demandHalf, weightHalf, InPlace, Ranged, Kept}
+use Rattle.plan_text.proofs.Kept.{Entry, Place, Half, demandHalf, weightHalf, InPlace, Ranged, Kept}
 use Rattle.plan_text.proofs.KeptAfter.{counts-fit}
 use Rattle.plan_text.proofs.RecordQuestions.{no-more-types}
 

@@ -1,33 +1,29 @@
 -- The computed reading is the first failure as worded: line by line, each test decides its question, and where all are met the
 -- draft goes on with the line's record.
-use Prim.Native.Nat.{ℕ, zero, suc, _+_, _-_, _≤_, _<_}
-use native.Mathlib.Nat.{add-zero}
-use native.Mathlib.Numerals.{add-one}
+use Prim.Native.Nat.{ℕ, _+_, _-_, _<_}
 use native.Mathlib.Omega.{arith}
-use mathlib.Core.Bool.{Bool, true, false, cond, _&&_, _||_, false≢true}
+use mathlib.Core.Bool.{Bool, true, false, cond, _||_, false≢true}
 use mathlib.Core.List.{List, [], _∷_, _++_, append-assoc, append-nil}
-use mathlib.Core.Logic.{_≢_, _⊎_, inl, inr, ⊎-elim}
+use mathlib.Core.Logic.{⊎-elim}
 use mathlib.Core.Path.{_≡_, refl, sym, ap, subst, _∙_}
-use lib.Dec.{eqb, leb, ltb}
-use lib.ListN.{length, take, drop, length-take, take-append-drop}
+use lib.Dec.{eqb, ltb}
+use lib.ListN.{length, take, drop}
 use lib.Seq.{set-getD}
 use borrow.Author.Tests.{eqb-true}
 use Rattle.bytes.specs.Bytes.{slice, indexOf}
-use Rattle.model.specs.Limits.{maxAllStages}
-use Rattle.model.specs.Numbers.{InRange, Each}
-use Rattle.model.specs.Questions.{Question, Condition, ask, asks, answerOf, FirstFailure}
-use Rattle.model.specs.Plan.{noStage, emptyPlan, allStages}
-use Rattle.model.specs.Soundness.{Sound}
-use Rattle.model.proofs.Decide.{Decides, holding, failing, decided, holds, fails, passes, decides-iff, decides-le, decides-lt, Answers, done, asked, AllHold}
-use Rattle.plan_text.specs.Lines.{Line, lineEnd, splitBy, linesIn, linesOf, isSkipped, parts, letterIn, fieldsIn}
+use Rattle.model.specs.Questions.{FirstFailure}
+use Rattle.model.specs.Plan.{noStage}
+use Rattle.model.proofs.Decide.{Decides, holding, decided, passes, decides-iff, decides-le, decides-lt}
+use Rattle.model.proofs.Decide.{Answers, done, asked, AllHold, choose, failure-append, first-failure-then}
+use Rattle.plan_text.specs.Lines.{Line, lineEnd, linesOf, isSkipped, parts, letterIn, fieldsIn}
 use Rattle.plan_text.specs.Records.{knownOf, recordIn, noRecord, InRanges, inRanges, sectionOf, fieldsRead, layoutOf}
 use Rattle.plan_text.specs.Written.{Draft, emptyDraft, indexIn, written, writtenAll, draftOf, planOf, heldIn}
-use Rattle.plan_text.specs.TextQuestions.{textNumber, shownIn, TextSays, Refuses, IsRecord, recordsOf, Follows, WellFielded, FirstWithKey, WithinTotal}
-use Rattle.plan_text.specs.TextQuestions.{maxText, lineConditions, Complete, conditionsFrom, textConditions, Accepts}
-use Rattle.plan_text.specs.Reading.{refused, accepted, follows, withinTotal, lineQuestions, isComplete, readFrom, reading}
+use Rattle.plan_text.specs.TextQuestions.{textNumber, Refuses, IsRecord, recordsOf, Follows, WellFielded, FirstWithKey, WithinTotal}
+use Rattle.plan_text.specs.TextQuestions.{maxText, lineConditions, conditionsFrom, textConditions, Accepts}
+use Rattle.plan_text.specs.Reading.{refused, accepted, follows, withinTotal, lineQuestions, readFrom, reading}
 use Rattle.plan_text.specs.declared.Record.{Record}
 use Rattle.plan_text.specs.declared.TextAnswer.{TextAnswer}
-use Rattle.plan_text.specs.declared.TextAnswer.the-variants.{Accepted, TooLong, BadLine, BadLetter, BadFields, OutOfRange, Repeated, Incomplete}
+use Rattle.plan_text.specs.declared.TextAnswer.the-variants.{TooLong, BadLine, BadLetter, BadFields, OutOfRange, Repeated, Incomplete}
 use Rattle.plan_text.specs.declared.Reading.{Reading}
 use Rattle.plan_text.proofs.LineByLine.{end-within, line-length, line-here, no-line}
 use Rattle.plan_text.proofs.LineForm.{decides-record, decides-well-formed, decides-follows, decides-fielded, fielded-blank, record-in, skipped-in}
@@ -35,25 +31,6 @@ use Rattle.plan_text.proofs.Kept.{Kept, Taken}
 use Rattle.plan_text.proofs.KeptAfter.{kept-after, nothing-kept}
 use Rattle.plan_text.proofs.RecordQuestions.{decides-ranges, decides-first, decides-total}
 use Rattle.plan_text.proofs.Completeness.{decides-complete}
-
--- questions that are followed by others: what holds after them is wanted only where they are met
-module _ {A : Type 0} (isOk : A → Bool) (Ok : A → Type 0) where
-  choose : {P : Type 0} {b : Bool} (F R : A → Type 0) (x y : A) → Decides P b → ((¬ P) → R y) → (P → F x) → ((¬ P) × R (cond b x y)) ⊎ (P × F (cond b x y))
-  choose F R x y (holding h) refusal rest = inr (h, rest h)
-  choose F R x y (failing h) refusal rest = inl (h, refusal h)
-
-  pub first-failure-then : (ok : A) {qs : List (Question A)} {cs : List (Condition A)} → Answers isOk qs cs → (AllHold cs → Ok ok)
-      → FirstFailure Ok cs (answerOf ok qs)
-  first-failure-then ok done good = good tt
-  first-failure-then ok (asked {q} {c} {qs} {cs} d r o rest) good =
-      choose (FirstFailure Ok cs) (c .refusal) (answerOf ok qs) (q .refusal) d r (λ h. first-failure-then ok (rest h) (λ all. good (h, all)))
-
--- first some questions, then others
-pub failure-append : {A : Type 0} (Ok : A → Type 0) (cs ds : List (Condition A)) (a : A)
-    → FirstFailure (FirstFailure Ok ds) cs a → FirstFailure Ok (cs ++ ds) a
-failure-append Ok [] ds a h = h
-failure-append Ok (c ∷ cs) ds a (inl h) = inl h
-failure-append Ok (c ∷ cs) ds a (inr h) = inr (h .0, failure-append Ok cs ds a (h .1))
 
 -- the draft after one record more
 pub draft-more : (d : Draft) (rs qs : List Record) → writtenAll d (rs ++ qs) ≡ writtenAll (writtenAll d rs) qs
@@ -106,7 +83,8 @@ module _ (text : List ℕ) (rs : List Record) (kept : Kept rs (draftOf rs)) (n f
   met-three : Decides (IsRecord l → Follows (d .section) (sectionOf (letterIn (parts (l .bytes))))) (isSkipped (l .bytes) || follows (d .section) (r .section))
   met-three = decides-record (isSkipped (l .bytes)) (λ e. rw (section-of e) (decides-follows (d .section) (sectionOf (letterIn (parts (l .bytes))))))
 
-  met-four : Decides (IsRecord l → WellFielded l) (isSkipped (l .bytes) || eqb (fieldsRead (fieldsIn (parts (l .bytes))) .count) (length (layoutOf (r .section))))
+  met-four : Decides (IsRecord l → WellFielded l)
+      (isSkipped (l .bytes) || eqb (fieldsRead (fieldsIn (parts (l .bytes))) .count) (length (layoutOf (r .section))))
   met-four =
       decides-record (isSkipped (l .bytes))
       (λ e. rw (section-of e) (decides-fielded (fieldsIn (parts (l .bytes))) (sectionOf (letterIn (parts (l .bytes))))))
@@ -207,7 +185,7 @@ module _ (text : List ℕ) where
 
   right-end : (rs : List Record) (n from : ℕ) → Kept rs (draftOf rs) → All rs [] → Right rs n from []
   right-end rs n from kept all =
-      choose isOk (Accepts text) (Accepts text) (Refuses text 7 (n + 1) []) (accepted (draftOf rs .plan)) (refused Incomplete (n + 1) 0 0)
+      choose (Accepts text) (Refuses text 7 (n + 1) []) (accepted (draftOf rs .plan)) (refused Incomplete (n + 1) 0 0)
       (decides-complete rs kept) (λ h. record { number = refl; line = refl; shown = refl; plan = refl })
       (λ h. record { number = refl; line = refl; shown = refl; plan = ap planOf (sym (append-nil rs) ∙ all) })
 
@@ -216,7 +194,7 @@ module _ (text : List ℕ) where
   right-line l ls rs n from kept lines all later =
       let answers = line-answers text rs kept (n + 1) from l (shown-line text from l ls lines) in
       failure-append (Accepts text) (lineConditions text rs (n + 1) l) (conditionsFrom text (rs ++ recordsOf (l ∷ [])) (n + 1) ls) _
-      (first-failure-then isOk (FirstFailure (Accepts text) (conditionsFrom text (rs ++ recordsOf (l ∷ [])) (n + 1) ls)) _ answers
+      (first-failure-then isOk _ (FirstFailure (Accepts text) (conditionsFrom text (rs ++ recordsOf (l ∷ [])) (n + 1) ls)) answers
       (λ hold.
       let on = goes-on text rs kept (n + 1) from l (shown-line text from l ls lines) hold (isSkipped (l .bytes)) refl in
       rw (← (on .1))
@@ -232,7 +210,7 @@ module _ (text : List ℕ) where
   pub reading-first-failure : FirstFailure (Accepts text) (textConditions text) (reading text)
   unfolding reading
   reading-first-failure =
-      choose isOk (Accepts text) (FirstFailure (Accepts text) (conditionsFrom text [] 0 (linesOf text))) (Refuses text 1 0 [])
+      choose (FirstFailure (Accepts text) (conditionsFrom text [] 0 (linesOf text))) (Refuses text 1 0 [])
       (readFrom 0 0 emptyDraft (linesOf text)) (refused TooLong 0 0 0) (decides-le (length text) maxText)
       (λ h. record { number = refl; line = refl; shown = refl; plan = refl })
       (λ h. right-from (linesOf text) [] 0 0 nothing-kept refl refl)

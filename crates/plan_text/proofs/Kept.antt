@@ -1,6 +1,6 @@
 -- What holds of a draft after records that were taken one by one: its lists have their sizes, every record is in range still, and
 -- an entry holds a value exactly when there is the record with that key and that value.
-use Prim.Native.Nat.{ℕ, zero, suc, _+_, _-_, _≤_, _<_}
+use Prim.Native.Nat.{ℕ, suc, _+_, _-_, _≤_, _<_}
 use native.Mathlib.Omega.{arith}
 use mathlib.Core.Bool.{Bool, true, false, cond, false≢true}
 use mathlib.Core.List.{List, [], _∷_, _++_}
@@ -10,22 +10,23 @@ use lib.Dec.{eqb}
 use lib.ListN.{length, getD, set, replicate, length-set}
 use lib.Seq.{getD-set-same, getD-set-other, set-out}
 use borrow.Author.Tests.{eq-eqb, ne-eqb}
-use Rattle.model.specs.Limits.{maxResources, maxTypes, maxRows, maxAllStages, maxUnits}
+use Rattle.model.specs.Limits.{maxResources, maxTypes, maxRows, maxAllStages}
 use Rattle.model.specs.Numbers.{InRange, at, sumTo, Each}
-use Rattle.model.specs.Plan.{noStage, emptyPlan, capacityOf, rankOf, boundOf, lengthOf, IsStage, allStages, stageOf}
+use Rattle.model.specs.Plan.{noStage, boundOf, lengthOf, IsStage, allStages, stageOf}
 use Rattle.model.specs.declared.Stage.{Stage}
 use Rattle.model.specs.declared.Plan.{Plan}
 use Rattle.model.proofs.Decide.{decided, decides-eq, decides-le}
 use Rattle.model.proofs.Flat.{index-of-stage}
 use Rattle.model.proofs.Lists.{replicated}
-use Rattle.plan_text.specs.Records.{sections, layoutOf, Field, number, resource, kind, row, stage, units, Known, knownOf, lowestIn, highestIn}
-use Rattle.plan_text.specs.Records.{InFields, InRanges, numbersOf, Has}
-use Rattle.plan_text.specs.Written.{Draft, emptyDraft, put, typeIn, stageIn, indexIn, entriesAfter, boundedAfter, stageAfter, stageHere}
+use Rattle.plan_text.specs.Records.{sections, number, Known, knownOf}
+use Rattle.plan_text.specs.Records.{InRanges, Has}
+use Rattle.plan_text.specs.Written.{Draft, emptyDraft, put, withDemand, withWeight, typeIn, stageIn, indexIn}
+use Rattle.plan_text.specs.Written.{entriesAfter, boundedAfter, stageAfter, stageHere}
 use Rattle.plan_text.specs.Written.{written, heldIn}
 use Rattle.plan_text.specs.TextQuestions.{Follows}
 use Rattle.plan_text.specs.Meaning.{line}
 use Rattle.plan_text.specs.declared.Record.{Record}
-use Rattle.plan_text.proofs.RecordLists.{append-left, append-right, has-each, held-still, held-more, put-same, put-other, put-length}
+use Rattle.plan_text.proofs.RecordLists.{held-still, held-more, put-same, put-other, put-length, entries-length}
 use Rattle.plan_text.proofs.Sections.{of-section, Blank}
 use Rattle.plan_text.proofs.StageWritten as stages
 
@@ -130,14 +131,13 @@ cond-length false xs ys n h k = k
 
 module _ (d : Draft) (r : Record) (sizes : Sizes d) where
   sized : (n size : ℕ) (xs : List ℕ) → length xs ≡ size → length (entriesAfter n xs r) ≡ size
-  sized n size xs h = cond-length (eqb (r .section) n) _ _ size (put-length xs (r .first) (r .second) ∙ h) h
+  sized n size xs h = entries-length n xs r ∙ h
 
   stage-sized : (s : Stage) → (length (s .demand) ≡ maxResources) × (length (s .weight) ≡ maxRows)
       → (length (stageAfter s r .demand) ≡ maxResources) × (length (stageAfter s r .weight) ≡ maxRows)
   stage-sized s h = go (eqb (r .section) 4) (eqb (r .section) 6)
     where
-      go : (a b : Bool) → let t = cond a (record { demand = put (s .demand) (r .third) (r .fourth); weight = s .weight })
-          (cond b (record { demand = s .demand; weight = put (s .weight) (r .first) (r .fourth) }) s) in
+      go : (a b : Bool) → let t = cond a (withDemand s (r .third) (r .fourth)) (cond b (withWeight s (r .first) (r .fourth)) s) in
           (length (t .demand) ≡ maxResources) × (length (t .weight) ≡ maxRows)
       go true b = (put-length (s .demand) (r .third) (r .fourth) ∙ h .0, h .1)
       go false true = (h .0, put-length (s .weight) (r .first) (r .fourth) ∙ h .1)
@@ -157,7 +157,7 @@ module _ (d : Draft) (r : Record) (sizes : Sizes d) where
         capacity = sized 2 maxResources (d .plan .capacity) (sizes .capacity);
         rank = sized 7 maxResources (d .plan .rank) (sizes .rank);
         bound = sized 5 maxRows (d .plan .bound) (sizes .bound);
-        bounded = cond-length (eqb (r .section) 5) _ _ maxRows (put-length (d .bounded) (r .first) 1 ∙ sizes .bounded) (sizes .bounded);
+        bounded = cond-length (eqb (r .section) 5) _ _ maxRows (put-length (d .bounded) (r .first) _ ∙ sizes .bounded) (sizes .bounded);
         lengths = sized 3 maxTypes (d .plan .lengths) (sizes .lengths);
         stages = length-set (d .plan .stages) _ _ ∙ sizes .stages;
         demand = λ i. stages-sized i .0;
@@ -249,15 +249,13 @@ pub record HalfLaws (h : Half) : Type 0 where
   pub sized : (d : Draft) → Sizes d → (i : ℕ) → length (h .part (getD (d .plan .stages) i noStage)) ≡ h .size
 
 demand-keeps : (s : Stage) (r : Record) (a b : Bool) → a ≡ false
-    → cond a (record { demand = put (s .demand) (r .third) (r .fourth); weight = s .weight }) (cond b (record { demand = s .demand; weight = put (s .weight) (r .first) (r .fourth) }) s) .demand
-    ≡ s .demand
+    → cond a (withDemand s (r .third) (r .fourth)) (cond b (withWeight s (r .first) (r .fourth)) s) .demand ≡ s .demand
 demand-keeps s r true b e = absurd (false≢true (sym e))
 demand-keeps s r false true e = refl
 demand-keeps s r false false e = refl
 
 weight-keeps : (s : Stage) (r : Record) (a b : Bool) → b ≡ false
-    → cond a (record { demand = put (s .demand) (r .third) (r .fourth); weight = s .weight }) (cond b (record { demand = s .demand; weight = put (s .weight) (r .first) (r .fourth) }) s) .weight
-    ≡ s .weight
+    → cond a (withDemand s (r .third) (r .fourth)) (cond b (withWeight s (r .first) (r .fourth)) s) .weight ≡ s .weight
 weight-keeps s r true b e = refl
 weight-keeps s r false true e = absurd (false≢true (sym e))
 weight-keeps s r false false e = refl

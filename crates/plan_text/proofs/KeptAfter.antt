@@ -1,29 +1,29 @@
 -- A draft after one record more: what is kept stays kept, family by family.
-use Prim.Native.Nat.{ℕ, zero, suc, _+_, _-_, _≤_, _<_}
+use Prim.Native.Nat.{ℕ, zero, suc, _≤_}
 use native.Mathlib.Nat.{le-refl}
 use native.Mathlib.Omega.{arith}
-use mathlib.Core.Bool.{Bool, true, false, cond}
+use mathlib.Core.Bool.{cond}
 use mathlib.Core.List.{List, [], _∷_, _++_}
-use mathlib.Core.Logic.{_≢_, _⊎_, inl, inr, ⊎-elim, _↔_}
+use mathlib.Core.Logic.{_↔_, _≢_, _⊎_, inl, inr, ⊎-elim}
 use mathlib.Core.Path.{_≡_, refl, sym, ap, subst, _∙_}
 use lib.Dec.{eqb}
 use lib.ListN.{length, getD, replicate}
 use borrow.Author.Tests.{eq-eqb, ne-eqb}
 use Rattle.model.specs.Limits.{maxResources, maxTypes, maxRows, maxAllStages}
-use Rattle.model.specs.Numbers.{InRange, at, sumTo, Each}
-use Rattle.model.specs.Plan.{noStage, emptyPlan, lengthOf, allStages, stageOf}
+use Rattle.model.specs.Numbers.{InRange, at}
+use Rattle.model.specs.Plan.{noStage, emptyPlan, allStages}
 use Rattle.model.specs.declared.Plan.{Plan}
 use Rattle.model.proofs.Decide.{decided, decides-eq}
 use Rattle.model.proofs.Lists.{replicated, append-each, each-map}
 use Rattle.plan_text.specs.Records.{Field, number, resource, kind, row, stage, units, Known, knownOf, highestIn, InFields, InRanges, Has}
 use Rattle.plan_text.specs.Records.{layoutOf, numbersOf}
-use Rattle.plan_text.specs.Written.{Draft, emptyDraft, put, entriesAfter, stageHere, written, heldIn}
+use Rattle.plan_text.specs.Written.{Draft, emptyDraft, entriesAfter, stageHere, written, heldIn}
 use Rattle.plan_text.specs.Meaning.{line}
 use Rattle.plan_text.specs.declared.Record.{Record}
-use Rattle.plan_text.proofs.RecordLists.{some-append, append-left, append-right, has-each, put-same, put-other}
+use Rattle.plan_text.proofs.RecordLists.{some-append, append-left, append-right, has-each, put-other}
 use Rattle.plan_text.proofs.Sections.{of-section, Blank}
 use Rattle.plan_text.proofs.StageWritten.{blank-stage, stages-same}
-use Rattle.plan_text.proofs.Kept.{Sizes, Entry, Bounded, Place, Half, demandHalf, weightHalf, InPlace, Ranged, Kept, Taken, sizes-after}
+use Rattle.plan_text.proofs.Kept.{Entry, demandHalf, weightHalf, Ranged, Kept, Taken, sizes-after}
 use Rattle.plan_text.proofs.Kept.{Own, entries-held, bounds-held, flags-held, demand-laws, weight-laws, half-held, beyond-after}
 
 -- what a plan has so far only grows, so a number in range stays in range
@@ -94,44 +94,36 @@ module _ (rs : List Record) (d : Draft) (kept : Kept rs d) where
     pair-shape : (n : ℕ) (e : r .section ≡ n) → (r .third ≡ 0) × (r .fourth ≡ 0) → r ≡ line n (r .first) (r .second) 0 0
     pair-shape n e z = of-section n r e ∙ (λ i. line n (r .first) (r .second) (z .0 i) (z .1 i))
 
+    -- a record of one list's section, with the fields of which is asked that they are in range, and a count that is few enough
+    own-list : (n count most : ℕ) (xs : List ℕ) (held : (i v : ℕ) → Entry xs i v ↔ Has rs (line n i v 0 0)) (e : r .section ≡ n)
+        → (InRange (r .first) count × (1 ≤ r .second)) → count ≤ most → length xs ≡ most → (r .third ≡ 0) × (r .fourth ≡ 0) → at xs (r .first) ≡ 0
+        → Own n xs rs r held
+    own-list n count most xs held e fit few size z empty =
+        record { shape = pair-shape n e z; room = (fit .0 .0, omega (arith, fit, few, size)); value = fit .1; empty = empty }
+
     own-capacity : r .section ≡ 2 → Own 2 (d .plan .capacity) rs r (kept .capacities)
     unfolding heldIn
     own-capacity e =
         let fit = ranges-of 2 e in
-        let most = counts-fit (past-first (λ f. omega arith)) in
         let z = blank-of 2 e in
-        record {
-          shape = pair-shape 2 e (z .0, z .1 .0);
-          room = (fit .0 .0, omega (arith, fit, most, kept .sizes .capacity));
-          value = fit .1 .0 .0;
-          empty = held-of 2 e;
-        }
-
-    own-rank : r .section ≡ 7 → Own 7 (d .plan .rank) rs r (kept .ranks)
-    unfolding heldIn
-    own-rank e =
-        let fit = ranges-of 7 e in
-        let most = counts-fit (past-first (λ f. omega arith)) in
-        let z = blank-of 7 e in
-        record {
-          shape = pair-shape 7 e (z .0, z .1 .0);
-          room = (fit .0 .0, omega (arith, fit, most, kept .sizes .rank));
-          value = fit .1 .0 .0;
-          empty = held-of 7 e;
-        }
+        own-list 2 (d .plan .resources) maxResources (d .plan .capacity) (kept .capacities) e (fit .0, fit .1 .0 .0)
+        (counts-fit (past-first (λ f. omega arith)) .0 .1) (kept .sizes .capacity) (z .0, z .1 .0) (held-of 2 e)
 
     own-length : r .section ≡ 3 → Own 3 (d .plan .lengths) rs r (kept .lengths)
     unfolding heldIn
     own-length e =
         let fit = ranges-of 3 e in
-        let most = counts-fit (past-first (λ f. omega arith)) in
         let z = blank-of 3 e in
-        record {
-          shape = pair-shape 3 e (z .0, z .1 .0);
-          room = (fit .0 .0, omega (arith, fit, most, kept .sizes .lengths));
-          value = fit .1 .0 .0;
-          empty = held-of 3 e;
-        }
+        own-list 3 (d .plan .types) maxTypes (d .plan .lengths) (kept .lengths) e (fit .0, fit .1 .0 .0)
+        (counts-fit (past-first (λ f. omega arith)) .1 .1) (kept .sizes .lengths) (z .0, z .1 .0) (held-of 3 e)
+
+    own-rank : r .section ≡ 7 → Own 7 (d .plan .rank) rs r (kept .ranks)
+    unfolding heldIn
+    own-rank e =
+        let fit = ranges-of 7 e in
+        let z = blank-of 7 e in
+        own-list 7 (d .plan .resources) maxResources (d .plan .rank) (kept .ranks) e (fit .0, fit .1 .0 .0)
+        (counts-fit (past-first (λ f. omega arith)) .0 .1) (kept .sizes .rank) (z .0, z .1 .0) (held-of 7 e)
 
     own-bound : r .section ≡ 5
         → (r ≡ line 5 (r .first) (r .second) 0 0) × InRange (r .first) (length (d .bounded)) × InRange (r .first) (length (d .plan .bound))
@@ -214,7 +206,8 @@ module _ (rs : List Record) (d : Draft) (kept : Kept rs d) where
         ⊎-elim
         (λ (e : r .section ≡ 1).
         let here = alone (nothing-before e .0) has in
-        rw (eq-eqb (r .section) 1 e) (ap (λ (q : Record). q .first) (sym here), ap (λ (q : Record). q .second) (sym here), ap (λ (q : Record). q .third) (sym here)))
+        rw (eq-eqb (r .section) 1 e)
+        (ap (λ (q : Record). q .first) (sym here), ap (λ (q : Record). q .second) (sym here), ap (λ (q : Record). q .third) (sym here)))
         (λ (ne : ¬ (r .section ≡ 1)).
         rw (ne-eqb (r .section) 1 ne)
         (kept .one-count a b c
@@ -262,7 +255,8 @@ pub nothing-kept : Kept [] emptyDraft
 unfolding emptyDraft emptyPlan allStages
 nothing-kept =
     record {
-      sizes = record { capacity = refl; rank = refl; bound = refl; bounded = refl; lengths = refl; stages = refl; demand = sized-demand; weight = sized-weight };
+      sizes =
+          record { capacity = refl; rank = refl; bound = refl; bounded = refl; lengths = refl; stages = refl; demand = sized-demand; weight = sized-weight };
       fresh = λ e. (refl, refl);
       counted = λ h. absurd (omega arith);
       one-count = λ a b c h. absurd h;

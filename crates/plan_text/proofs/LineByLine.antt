@@ -1,19 +1,18 @@
 -- The lines of a text, one after the other, by where a search for the next LF ends.
-use Prim.Native.Nat.{ℕ, zero, suc, _+_, _-_, _≤_, _<_}
-use native.Mathlib.Numerals.{add-one}
+use Prim.Native.Nat.{ℕ, suc, _+_, _-_, _≤_, _<_}
 use native.Mathlib.Omega.{arith}
 use mathlib.Core.Bool.{Bool, true, false}
 use mathlib.Core.List.{List, [], _∷_}
 use mathlib.Core.Logic.{_≢_, ⊎-elim}
-use mathlib.Core.Path.{_≡_, refl, sym, ap, _∙_}
+use mathlib.Core.Path.{_≡_, refl, ap, _∙_}
 use lib.Dec.{eqb, ltb}
-use lib.ListN.{length, take, drop, length-take, length-drop, drop-of-length-le}
+use lib.ListN.{length, take, drop, length-drop, drop-of-length-le}
 use lib.Seq.{take-length, length-take-le}
 use borrow.Author.Tests.{lt-ltb, le-ltb}
 use Rattle.bytes.specs.Bytes.{slice, indexAfter, indexOf}
 use Rattle.model.proofs.Decide.{decided, decides-lt}
-use Rattle.plan_text.specs.Lines.{Line, lineEnd, splitBy, lastLine, linesIn, linesOf}
-use Rattle.plan_text.proofs.Split.{partsAfter, split-some, after-separator, after-end, split-from}
+use Rattle.plan_text.specs.Lines.{lineEnd, splitBy, linesIn, linesOf}
+use Rattle.plan_text.proofs.Split.{split-some, after-separator, after-end, split-from}
 
 pub found-within : (s : ℕ) (xs : List ℕ) → indexOf s xs ≤ length xs
 unfolding indexOf indexAfter

@@ -1,25 +1,23 @@
 -- Questions 2 to 4 of a line: the tests decide what is asked. The fields are counted as they are read, so the count is theirs
 -- exactly when each is a number, and the numbers that a record does not have stay 0.
 use Prim.Native.Nat.{ℕ, zero, suc, _+_, _≤_, _<_}
-use native.Mathlib.Nat.{add-zero, zero-add, add-suc}
-use native.Mathlib.Numerals.{add-one}
+use native.Mathlib.Nat.{add-zero, zero-add}
 use native.Mathlib.Omega.{arith}
 use mathlib.Core.Bool.{Bool, true, false, cond, _&&_, _||_, false≢true}
-use mathlib.Core.List.{List, [], _∷_, _++_}
-use mathlib.Core.Logic.{_≢_, _⊎_, inl, inr, ⊎-elim}
-use mathlib.Core.Path.{_≡_, refl, sym, ap, subst, _∙_}
-use lib.Dec.{eqb, leb, ltb}
+use mathlib.Core.List.{List, [], _∷_}
+use mathlib.Core.Path.{_≡_, refl, sym, _∙_}
+use lib.Dec.{eqb, ltb}
 use lib.ListN.{length, drop, getD, set}
 use lib.Seq.{getD-set-other}
-use borrow.Author.Tests.{eq-eqb, ne-eqb, lt-ltb}
-use Rattle.model.specs.Numbers.{InRange, entry, Each, each}
-use Rattle.model.proofs.Decide.{Decides, holding, failing, decided, decides-iff, decides-eq, decides-le, decides-lt, decides-range, decides-or, decides-each, _and_, passes, fails}
-use Rattle.plan_text.specs.Lines.{Line, tab, isSkipped, Plain, isPlain, parts, letterIn, fieldsIn}
-use Rattle.plan_text.specs.Records.{sections, sectionOf, Field, layouts, layoutOf, Digit, IsNumber, isDigit, isNumber, numberOn, fieldsOn, fieldsRead, noNumbers}
-use Rattle.plan_text.specs.Records.{recordWith, noRecord, recordIn, numbersOf}
-use Rattle.plan_text.specs.TextQuestions.{IsRecord, WellFormed, Follows, WellFielded}
+use borrow.Author.Tests.{ne-eqb, lt-ltb}
+use Rattle.model.specs.Numbers.{Each, each}
+use Rattle.model.proofs.Decide.{Decides, holding, failing, passes, decides-iff, decides-eq, decides-le, decides-lt, decides-range}
+use Rattle.model.proofs.Decide.{decides-or, decides-each, _and_}
+use Rattle.plan_text.specs.Lines.{Line, tab, isSkipped, isPlain, parts, letterIn, fieldsIn}
+use Rattle.plan_text.specs.Records.{sections, sectionOf, layoutOf, IsNumber, isNumber, numberOn, fieldsOn, fieldsRead, noNumbers}
+use Rattle.plan_text.specs.Records.{recordWith, noRecord, recordIn}
+use Rattle.plan_text.specs.TextQuestions.{WellFormed, Follows}
 use Rattle.plan_text.specs.Reading.{follows}
-use Rattle.plan_text.specs.declared.Record.{Record}
 use Rattle.plan_text.proofs.Sections.{Blank}
 
 decides-true : (b : Bool) → Decides (b ≡ true) b
@@ -72,7 +70,8 @@ fields-after n xs (f ∷ fs) i h = go (fields-after (n + 1) _ fs i (omega arith)
     go rest false = refl
     go rest true = rest ∙ getD-set-other xs n i (numberOn 0 f) 0 (λ e. omega arith)
 
-few-fields : (section : ℕ) → length (layoutOf section) ≤ 4
+-- no section has more than four
+pub few-fields : (section : ℕ) → length (layoutOf section) ≤ 4
 few-fields zero = omega arith
 few-fields (suc zero) = omega arith
 few-fields (suc (suc zero)) = omega arith

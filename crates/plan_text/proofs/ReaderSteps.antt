@@ -4,9 +4,9 @@ use Prim.Native.Nat.{ℕ, zero, suc, _+_, _-_, _%_, _≤_, _<_}
 use native.Mathlib.Nat.{mod-eq-of-lt}
 use native.Mathlib.Numerals.{sub-one}
 use native.Mathlib.Omega.{arith}
-use mathlib.Core.Bool.{Bool, true, false, cond, _&&_, _||_, false≢true}
+use mathlib.Core.Bool.{Bool, true, false, cond, false≢true}
 use mathlib.Core.List.{List, [], _∷_, _++_, map}
-use mathlib.Core.Logic.{_≢_, _⊎_, inl, inr, ⊎-elim}
+use mathlib.Core.Logic.{_⊎_, inl, inr, ⊎-elim}
 use mathlib.Core.Path.{_≡_, refl, sym, ap, subst, _∙_}
 use lib.Dec.{eqb, leb}
 use lib.ListN.{length, getD, set, List·getD-eq-default}
@@ -14,13 +14,13 @@ use lib.Seq.{set-out}
 use borrow.Author.Tests.{eq-eqb, ne-eqb, leb-true}
 use Rattle.model.specs.Limits.{maxTypes, maxAllStages}
 use Rattle.model.specs.Numbers.{InRange, at, sumTo}
-use Rattle.model.specs.Questions.{Question, ask, answerOf}
+use Rattle.model.specs.Questions.{Question, answerOf}
 use Rattle.model.specs.Plan.{noStage}
 use Rattle.model.specs.declared.Stage.{Stage}
 use Rattle.model.proofs.Decide.{decided, decides-eq, decides-le, holds}
 use Rattle.model.proofs.Flat.{sum-up-to}
 use Rattle.plan_text.specs.Lines.{Line}
-use Rattle.plan_text.specs.Records.{Known, knownOf, recordIn, noRecord, InRanges, inRanges}
+use Rattle.plan_text.specs.Records.{Known, knownOf, recordIn, InRanges, inRanges}
 use Rattle.plan_text.specs.Written.{Draft, put, indexIn, entriesAfter, boundedAfter, stageAfter, written, heldIn, changed}
 use Rattle.plan_text.specs.Reading.{refused, formQuestions, withinTotal, recordQuestions, ofLine, readFrom}
 use Rattle.plan_text.specs.ReaderParts.{isAccepted, formAnswer, recordAnswer, narrowed, countsAfter, headAfter, draftWith, knownWith}
@@ -29,9 +29,9 @@ use Rattle.plan_text.specs.declared.Record.{Record}
 use Rattle.plan_text.specs.declared.Counts.{Counts}
 use Rattle.plan_text.specs.declared.Head.{Head}
 use Rattle.plan_text.specs.declared.TextAnswer.{TextAnswer}
-use Rattle.plan_text.specs.declared.TextAnswer.the-variants.{Accepted, OutOfRange, Repeated}
+use Rattle.plan_text.specs.declared.TextAnswer.the-variants.{Accepted}
 use Rattle.plan_text.specs.declared.Reading.{Reading}
-use Rattle.plan_text.proofs.RecordLists.{put-same, put-other, put-length}
+use Rattle.plan_text.proofs.RecordLists.{put-same, put-other, sum-before}
 use Rattle.plan_text.proofs.Sections.{of-section}
 use Rattle.plan_text.proofs.RecordQuestions.{decides-ranges}
 
@@ -83,7 +83,8 @@ module _ (n from : ℕ) (d : Draft) (l : Line) (ls : List Line) where
   pub form-refused : isAccepted (formAnswer (d .section) l) ≡ false → readFrom n from d (l ∷ ls) ≡ refused (formAnswer (d .section) l) (n + 1) from to
   form-refused e = group-refused (n + 1) from to after (formQuestions (d .section) l) (recordQuestions d (recordIn (l .bytes))) e
 
-  form-met : isAccepted (formAnswer (d .section) l) ≡ true → readFrom n from d (l ∷ ls) ≡ told (n + 1) from to after (recordQuestions d (recordIn (l .bytes)) ++ [])
+  form-met : isAccepted (formAnswer (d .section) l) ≡ true
+      → readFrom n from d (l ∷ ls) ≡ told (n + 1) from to after (recordQuestions d (recordIn (l .bytes)) ++ [])
   unfolding Refusals
   form-met e = group-met (n + 1) from to after (formQuestions (d .section) l) (recordQuestions d (recordIn (l .bytes))) (refl, (refl, (refl, tt))) e
 
@@ -194,23 +195,12 @@ module _ (xs : List ℕ) (i v : ℕ) (low : 1 ≤ i) where
       (λ (ne : ¬ (j ≡ i)). rw (put-other xs i j v low ne) (omega arith))
       (decided (decides-eq j i))
 
-  sum-most-below : (n : ℕ) → n < i → sumTo n (at (put xs i v)) ≡ sumTo n (at xs)
-  sum-most-below zero h = refl
-  sum-most-below (suc n) h = rw (sum-most-below n (omega arith), put-other xs i (suc n) v low (λ e. omega arith)) refl
-
   sum-most : (n : ℕ) → sumTo n (at (put xs i v)) ≤ sumTo n (at xs) + v
   sum-most zero = omega arith
   sum-most (suc n) =
-      ⊎-elim (λ (e : suc n ≡ i). omega (arith, sum-most-below n (omega (arith, e)), put-most (suc n)))
+      ⊎-elim (λ (e : suc n ≡ i). omega (arith, sum-before xs i v low n (omega (arith, e)), put-most (suc n)))
       (λ (ne : ¬ (suc n ≡ i)). omega (arith, sum-most n, put-other xs i (suc n) v low ne))
       (decided (decides-eq (suc n) i))
-
-pub entries-length : (n : ℕ) (xs : List ℕ) (r : Record) → length (entriesAfter n xs r) ≡ length xs
-entries-length n xs r = go (eqb (r .section) n)
-  where
-    go : (b : Bool) → length (cond b (put xs (r .first) (r .second)) xs) ≡ length xs
-    go true = put-length xs (r .first) (r .second)
-    go false = refl
 
 abbrev pub Few : List ℕ → Type 0
 Few lengths = sumTo maxTypes (at lengths) ≤ maxAllStages
@@ -223,7 +213,8 @@ module _ (k : Known) (r : Record) (met : inRanges k r ≡ true) where
       (λ (e : r .section ≡ 3).
       let ranges = subst (InRanges k) (of-section 3 r e) (holds (decides-ranges k r) met) in
       let fits : leb (sumTo maxTypes (at (k .lengths)) + r .second) maxAllStages ≡ true = rw (eq-eqb (r .section) 3 e) at within in
-      rw (eq-eqb (r .section) 3 e) (omega (arith, sum-most (k .lengths) (r .first) (r .second) (ranges .0 .0) maxTypes, leb-true (sumTo maxTypes (at (k .lengths)) + r .second) maxAllStages fits)))
+      let most = sum-most (k .lengths) (r .first) (r .second) (ranges .0 .0) maxTypes in
+      rw (eq-eqb (r .section) 3 e) (omega (arith, most, leb-true (sumTo maxTypes (at (k .lengths)) + r .second) maxAllStages fits)))
       (λ (ne : ¬ (r .section ≡ 3)). rw (ne-eqb (r .section) 3 ne) few)
       (decided (decides-eq (r .section) 3))
 

@@ -3,14 +3,16 @@
 use Prim.Native.Nat.{ℕ, zero, suc, _-_, _≤_, _<_}
 use native.Mathlib.Numerals.{sub-one}
 use native.Mathlib.Omega.{arith}
+use mathlib.Core.Bool.{Bool, true, false, cond}
 use mathlib.Core.List.{List, [], _∷_, _++_}
 use mathlib.Core.Logic.{_≢_, _⊎_, inl, inr, ⊎-elim, _↔_}
 use mathlib.Core.Path.{_≡_, refl, sym, ap, _∙_}
-use lib.ListN.{length, getD, set, length-set}
+use lib.Dec.{eqb}
+use lib.ListN.{length, length-set}
 use lib.Seq.{getD-set-same, getD-set-other}
-use Rattle.model.specs.Numbers.{InRange, at, Each}
+use Rattle.model.specs.Numbers.{InRange, at, sumTo, Each}
 use Rattle.plan_text.specs.Records.{Some, Has}
-use Rattle.plan_text.specs.Written.{put}
+use Rattle.plan_text.specs.Written.{put, entriesAfter}
 use Rattle.plan_text.specs.declared.Record.{Record}
 
 module _ (P : Record → Type 0) where
@@ -106,3 +108,16 @@ put-other xs (suc i) (suc j) x h n = rw sub-one (getD-set-other xs i j x 0 (λ e
 
 pub put-length : (xs : List ℕ) (i x : ℕ) → length (put xs i x) ≡ length xs
 put-length xs i x = length-set xs (i - 1) x
+
+-- entries after a record are as many
+pub entries-length : (n : ℕ) (xs : List ℕ) (r : Record) → length (entriesAfter n xs r) ≡ length xs
+entries-length n xs r = go (eqb (r .section) n)
+  where
+    go : (b : Bool) → length (cond b (put xs (r .first) (r .second)) xs) ≡ length xs
+    go true = put-length xs (r .first) (r .second)
+    go false = refl
+
+-- the sum of the entries before the one put
+pub sum-before : (xs : List ℕ) (i x : ℕ) → 1 ≤ i → (n : ℕ) → n < i → sumTo n (at (put xs i x)) ≡ sumTo n (at xs)
+sum-before xs i x low zero h = refl
+sum-before xs i x low (suc n) h = rw (sum-before xs i x low n (omega arith), put-other xs i (suc n) x low (λ e. omega arith)) refl

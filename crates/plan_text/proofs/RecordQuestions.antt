@@ -1,10 +1,8 @@
 -- Questions 5 and 6 of a record: the tests decide what is asked, since what is held under a key is there exactly when a record
 -- with that key was read, and the stages of all types add up.
-use Prim.Native.Nat.{ℕ, zero, suc, _+_, _-_, _≤_, _<_}
-use native.Mathlib.Nat.{add-assoc}
+use Prim.Native.Nat.{ℕ, zero, suc, _+_, _≤_, _<_}
 use native.Mathlib.Omega.{arith}
-use mathlib.Core.Bool.{Bool, true, false, cond, _&&_}
-use mathlib.Core.List.{List, [], _∷_, _++_}
+use mathlib.Core.List.{List, [], _∷_}
 use mathlib.Core.Logic.{_≢_, _⊎_, inl, inr, ⊎-elim, _↔_}
 use mathlib.Core.Path.{_≡_, refl, sym, ap, subst, _∙_}
 use lib.Dec.{eqb, leb}
@@ -12,20 +10,19 @@ use lib.ListN.{length, getD, replicate}
 use borrow.Author.Tests.{eq-eqb, ne-eqb}
 use Rattle.model.specs.Limits.{maxTypes, maxAllStages}
 use Rattle.model.specs.Numbers.{InRange, at, sumTo, Each}
-use Rattle.model.specs.Plan.{emptyPlan, lengthOf, allStages, boundOf, stageOf}
-use Rattle.model.specs.declared.Plan.{Plan}
+use Rattle.model.specs.Plan.{emptyPlan, allStages, boundOf, stageOf}
 use Rattle.model.proofs.Decide.{Decides, holding, failing, decided, decides-iff, decides-eq, decides-le, _and_}
 use Rattle.model.proofs.Lists.{replicated}
 use Rattle.plan_text.specs.Records.{Field, Known, knownOf, InFields, fitsFields, lowestIn, highestIn, InRanges, inRanges, layoutOf, numbersOf}
 use Rattle.plan_text.specs.Records.{keyOf, Some, Has, sections}
-use Rattle.plan_text.specs.Written.{Draft, emptyDraft, put, written, stageHere, heldIn, typeIn, stageIn}
+use Rattle.plan_text.specs.Written.{Draft, emptyDraft, put, written, heldIn}
 use Rattle.plan_text.specs.TextQuestions.{FirstWithKey}
 use Rattle.plan_text.specs.Reading.{withinTotal}
 use Rattle.plan_text.specs.Meaning.{line}
 use Rattle.plan_text.specs.declared.Record.{Record}
-use Rattle.plan_text.proofs.RecordLists.{each-some, none-each, each-none, some-map, has-each, put-same, put-other}
+use Rattle.plan_text.proofs.RecordLists.{each-some, none-each, each-none, some-map, has-each, put-same, put-other, sum-before}
 use Rattle.plan_text.proofs.Sections.{of-section, one-of-seven, Blank}
-use Rattle.plan_text.proofs.Kept.{Entry, Bounded, Place, Half, demandHalf, weightHalf, InPlace, Ranged, Kept, found-at}
+use Rattle.plan_text.proofs.Kept.{Entry, Bounded, demandHalf, weightHalf, InPlace, Ranged, Kept, found-at}
 use Rattle.plan_text.proofs.KeptAfter.{counts-fit}
 
 -- 5: the ranges of the fields
@@ -168,22 +165,18 @@ module _ (rs : List Record) (d : Draft) (kept : Kept rs d) where
       fit-at n e = subst (InRanges known) (of-section n r e) fit
 
       at-section : (n : ℕ) → r .section ≡ n
-          → Decides (FirstWithKey rs (line n (r .first) (r .second) (r .third) (r .fourth))) (eqb (heldIn d (line n (r .first) (r .second) (r .third) (r .fourth))) 0)
+          → (let q = line n (r .first) (r .second) (r .third) (r .fourth) in Decides (FirstWithKey rs q) (eqb (heldIn d q) 0))
           → Decides (FirstWithKey rs r) (eqb (heldIn d r) 0)
       at-section n e h = subst (λ q. Decides (FirstWithKey rs q) (eqb (heldIn d q) 0)) (sym (of-section n r e)) h
 
 -- 5 of all types together: the stages add up
 module _ (xs : List ℕ) (i v : ℕ) (room : InRange i (length xs)) (empty : at xs i ≡ 0) where
-  sum-below : (n : ℕ) → n < i → sumTo n (at (put xs i v)) ≡ sumTo n (at xs)
-  sum-below zero h = refl
-  sum-below (suc n) h = rw (sum-below n (omega arith), put-other xs i (suc n) v (room .0) (λ e. omega arith)) refl
-
   pub sum-put : (n : ℕ) → i ≤ n → sumTo n (at (put xs i v)) ≡ sumTo n (at xs) + v
   sum-put zero h = absurd (omega (arith, room))
   sum-put (suc n) h =
       ⊎-elim
       (λ (e : suc n ≡ i).
-      let before = sum-below n (omega arith) in
+      let before = sum-before xs i v (room .0) n (omega arith) in
       let last : at (put xs i v) (suc n) ≡ v = ap (at (put xs i v)) e ∙ put-same xs i v room in
       let old : at xs (suc n) ≡ 0 = ap (at xs) e ∙ empty in
       omega (arith, before, last, old))
@@ -197,13 +190,14 @@ pub sum-beyond : (f : ℕ → ℕ) (n m : ℕ) → n ≤ m → ((t : ℕ) → n 
 sum-beyond f n zero h zeros = let e : n ≡ 0 = omega arith in rw e refl
 sum-beyond f n (suc m) h zeros =
     ⊎-elim (λ (e : n ≡ suc m). rw e refl)
-    (λ (ne : ¬ (n ≡ suc m)). let before = sum-beyond f n m (omega (arith, ne)) zeros in let last = zeros (suc m) (omega (arith, ne)) in omega (arith, before, last))
+    (λ (ne : ¬ (n ≡ suc m)). omega (arith, sum-beyond f n m (omega (arith, ne)) zeros, zeros (suc m) (omega (arith, ne))))
     (decided (decides-eq n (suc m)))
 
 module _ (rs : List Record) (d : Draft) (kept : Kept rs d) where
   -- only types of the plan have stages
   pub no-more-types : (t : ℕ) → d .plan .types < t → at (d .plan .lengths) t ≡ 0
-  no-more-types t h = ⊎-elim (λ (e : at (d .plan .lengths) t ≡ 0). e) (λ ne. absurd (beyond ne)) (decided (decides-eq (at (d .plan .lengths) t) 0))
+  no-more-types t h =
+      ⊎-elim (λ (e : at (d .plan .lengths) t ≡ 0). e) (λ ne. absurd (beyond ne)) (decided (decides-eq (at (d .plan .lengths) t) 0))
     where
       beyond : ¬ (at (d .plan .lengths) t ≡ 0) → ⊥
       beyond ne =

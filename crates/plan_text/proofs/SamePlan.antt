@@ -3,29 +3,27 @@
 use Prim.Native.Nat.{ℕ, zero, suc, _+_, _-_, _≤_, _<_}
 use native.Mathlib.Numerals.{sub-one}
 use native.Mathlib.Omega.{arith}
-use mathlib.Core.List.{List, [], _∷_}
-use mathlib.Core.Logic.{_≢_, _⊎_, inl, inr, ⊎-elim, _↔_}
-use mathlib.Core.Path.{_≡_, refl, sym, ap, subst, _∙_}
+use mathlib.Core.List.{List}
+use mathlib.Core.Logic.{_⊎_, inl, inr, ⊎-elim, _↔_}
+use mathlib.Core.Path.{_≡_, refl, sym, ap, _∙_}
 use lib.ListN.{length, getD}
 use lib.Seq.{ext-getD}
-use Rattle.model.specs.Limits.{maxResources, maxTypes, maxRows, maxAllStages}
 use Rattle.model.specs.Numbers.{InRange, at, sumTo}
-use Rattle.model.specs.Plan.{noStage, capacityOf, boundOf, lengthOf, IsStage, allStages, stageOf, demandOf, weightOf}
-use Rattle.model.specs.declared.Stage.{Stage}
+use Rattle.model.specs.Plan.{noStage, boundOf, lengthOf, IsStage, allStages, stageOf, demandOf, weightOf}
 use Rattle.model.specs.declared.Plan.{Plan}
 use Rattle.model.proofs.Decide.{decided, decides-eq, decides-le}
 use Rattle.plan_text.specs.Lines.{linesOf}
 use Rattle.plan_text.specs.Records.{Has}
-use Rattle.plan_text.specs.Written.{Draft, draftOf, planOf}
+use Rattle.plan_text.specs.Written.{draftOf, planOf}
 use Rattle.plan_text.specs.TextQuestions.{textNumber, recordsOf, Complete}
 use Rattle.plan_text.specs.Reading.{reading}
 use Rattle.plan_text.specs.Meaning.{line, Says, SameRecords}
 use Rattle.plan_text.specs.declared.Record.{Record}
 use Rattle.plan_text.specs.declared.Reading.{Reading}
 use Rattle.plan_text.proofs.StageWritten.{stage-here}
-use Rattle.plan_text.proofs.Kept.{Entry, Bounded, Place, Half, demandHalf, weightHalf, InPlace, Kept}
+use Rattle.plan_text.proofs.Kept.{Entry, Place, Half, demandHalf, weightHalf, InPlace, Kept}
 use Rattle.plan_text.proofs.Completeness.{complete-bounds, counted-section}
-use Rattle.plan_text.proofs.AcceptedText.{Whole, accepted-whole}
+use Rattle.plan_text.proofs.AcceptedText.{accepted-whole}
 
 -- a row of the plan has its bound
 marked : (rs : List Record) (kept : Kept rs (draftOf rs)) → Complete rs → (w : ℕ) → InRange w (planOf rs .rows) → at (draftOf rs .bounded) w ≡ 1
@@ -129,7 +127,8 @@ module _ (rs qs : List Record) (kept : Kept rs (draftOf rs)) (keeps : Kept qs (d
           let t = found .0 in
           let k = found .1 in
           let mine : IsStage p t k = (found .2, found .3) in
-          let yours : IsStage q t k = ((found .2 .0, omega (arith, found .2, counts-told .1)), (found .3 .0, omega (arith, found .3, ap (λ xs. at xs t) lengths-told))) in
+          let longest = ap (λ xs. at xs t) lengths-told in
+          let yours : IsStage q t k = ((found .2 .0, omega (arith, found .2, counts-told .1)), (found .3 .0, omega (arith, found .3, longest))) in
           let left : stageOf p t k ≡ getD (p .stages) i noStage =
           stage-here p t k mine (kept .total) (kept .sizes .stages) noStage ∙ ap (λ j. getD (p .stages) j noStage) (found .4) in
           let index : sumTo (t - 1) (lengthOf q) + (k - 1) ≡ i = ap (λ xs. sumTo (t - 1) (at xs) + (k - 1)) (sym lengths-told) ∙ found .4 in

@@ -1,9 +1,8 @@
 -- Records by their section: what holds of a record of each section with any numbers holds of every record of the text.
-use Prim.Native.Nat.{ℕ, zero, suc, _≤_}
+use Prim.Native.Nat.{ℕ, zero, suc}
 use native.Mathlib.Omega.{arith}
-use mathlib.Core.List.{List, [], _∷_}
-use mathlib.Core.Path.{_≡_, refl, sym, ap, subst}
-use lib.ListN.{length, drop, getD}
+use mathlib.Core.Path.{_≡_}
+use lib.ListN.{length, drop}
 use Rattle.model.specs.Numbers.{InRange, Each}
 use Rattle.plan_text.specs.Records.{sections, layoutOf, numbersOf}
 use Rattle.plan_text.specs.Meaning.{line}

@@ -5,22 +5,21 @@ use native.Mathlib.Nat.{add-suc}
 use native.Mathlib.Numerals.{sub-one}
 use native.Mathlib.Omega.{arith}
 use mathlib.Core.Bool.{Bool, true, false, cond, _&&_}
-use mathlib.Core.List.{List, [], _∷_}
-use mathlib.Core.Logic.{_≢_, _⊎_, inl, inr, ⊎-elim}
+use mathlib.Core.List.{List}
+use mathlib.Core.Logic.{_≢_}
 use mathlib.Core.Path.{_≡_, refl, sym, ap, _∙_}
-use lib.Dec.{eqb}
 use lib.ListN.{length, getD, set, replicate}
 use lib.Seq.{getD-set-same, getD-set-other, set-getD}
 use borrow.Author.Tests.{ne-eqb}
 use Rattle.model.specs.Limits.{maxAllStages}
-use Rattle.model.specs.Numbers.{InRange, inRange, entry, at, sumTo}
+use Rattle.model.specs.Numbers.{inRange, entry, sumTo}
 use Rattle.model.specs.Plan.{noStage, lengthOf, IsStage, isStage, allStages, stageOf}
 use Rattle.model.specs.declared.Stage.{Stage}
 use Rattle.model.specs.declared.Plan.{Plan}
 use Rattle.model.proofs.Decide.{Decides, holding, failing, passes, decides-range, _and_}
-use Rattle.model.proofs.Flat.{flatIndex, index-of-stage, one-at-index}
+use Rattle.model.proofs.Flat.{index-of-stage, one-at-index}
 use Rattle.model.proofs.Lists.{replicated}
-use Rattle.plan_text.specs.Written.{Draft, typeIn, stageIn, indexIn, stageAfter, stageHere, written}
+use Rattle.plan_text.specs.Written.{Draft, indexIn, written}
 use Rattle.plan_text.specs.declared.Record.{Record}
 
 -- an entry counted from 1, read from 0

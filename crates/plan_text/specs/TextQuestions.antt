@@ -1,7 +1,7 @@
 -- The questions 1 to 7 of document 01 as they are worded: what is asked, and what a refusal says. The first failing line
 -- decides, and in it the first failing question; 7 is asked after the last line.
 use Prim.Native.Nat.{ℕ, _+_, _-_, _≤_}
-use mathlib.Core.Bool.{Bool, true, false, cond}
+use mathlib.Core.Bool.{true, false, cond}
 use mathlib.Core.List.{List, [], _∷_, _++_}
 use mathlib.Core.Logic.{_≢_, _⊎_}
 use mathlib.Core.Path.{_≡_}
@@ -9,7 +9,7 @@ use lib.ListN.{length, take, drop}
 use Rattle.model.specs.Limits.{maxAllStages}
 use Rattle.model.specs.Numbers.{InRange, Each}
 use Rattle.model.specs.Questions.{Condition, asks}
-use Rattle.model.specs.Plan.{emptyPlan, allStages, lengthOf, IsStage}
+use Rattle.model.specs.Plan.{emptyPlan, allStages, IsStage}
 use Rattle.model.specs.declared.Plan.{Plan}
 use Rattle.plan_text.specs.Lines.{Line, linesOf, isSkipped, Plain, parts, letterIn, fieldsIn}
 use Rattle.plan_text.specs.Records.{sections, sectionOf, layoutOf, knownOf, IsNumber, recordIn, InRanges, keyOf, Some}

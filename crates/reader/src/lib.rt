@@ -46,18 +46,25 @@ fn finished(plan: Plan, bounded: &[u8; 32], line: u32) -> Reading
     requires { ⌜ line < 4294967295 ⌝ }
     ensures { λ r. ⌜ r ≡ readFrom line 0 (record { plan = plan; bounded = now (bounded .entry); section = 0 }) [] ⌝ }
 {
-    if !is_sound(plan) {
-        return refusal(TextAnswer::Incomplete, line + 1, 0, 0);
-    }
-    if !all_bounded(bounded, plan.rows) {
-        return refusal(TextAnswer::Incomplete, line + 1, 0, 0);
+    let none = empty_plan();
+    let after = line + 1;
+    if is_sound(plan) {
+        if all_bounded(bounded, plan.rows) {
+            return Reading {
+                answer: TextAnswer::Accepted,
+                line: 0,
+                from: 0,
+                to: 0,
+                plan,
+            };
+        }
     }
     Reading {
-        answer: TextAnswer::Accepted,
-        line: 0,
+        answer: TextAnswer::Incomplete,
+        line: after,
         from: 0,
         to: 0,
-        plan,
+        plan: none,
     }
 }
 
@@ -129,6 +136,7 @@ fn read_lines(text: &[u8]) -> Reading
     let mut at = 0;
     while at < text.len() {
         let end = find(text, at, text.len(), b'\n');
+        let next = end + 1;
         line += 1;
         let form = form_at(text, at, end, head.section);
         let rec = form.read;
@@ -138,15 +146,15 @@ fn read_lines(text: &[u8]) -> Reading
         };
         let i = place_within(rec, &lengths);
         let s = stages[i];
-        let answer = record_answer(rec, head, s, &capacity, &lengths, &bounded, &rank);
-        let TextAnswer::Accepted = answer else {
-            return refusal(answer, line, at, end);
+        let asked = record_answer(rec, head, s, &capacity, &lengths, &bounded, &rank);
+        let TextAnswer::Accepted = asked else {
+            return refusal(asked, line, at, end);
         };
         stages[i] = stage_after(s, rec);
         write_entries(rec, &mut capacity, &mut lengths, &mut rank);
         write_bound(rec, &mut bound, &mut bounded);
         head = head_after(head, rec);
-        at = end + 1;
+        at = next;
     }
     let plan = plan_with(head, capacity, rank, bound, lengths, stages);
     finished(plan, &bounded, line)

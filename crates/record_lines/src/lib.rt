@@ -1,4 +1,4 @@
-// The form of a line of the plan text: its bytes, its letter, its fields and their numbers; questions 2 to 4.
+// The form of a line of the plan text: its bytes, its letter and the count of its fields; questions 2 to 4.
 ghost use mathlib.Core.Path.{_≡_};
 ghost use mathlib.Core.Bool.{_&&_};
 ghost use lib.ListN.{length};
@@ -6,12 +6,12 @@ ghost use Rattle.model.specs.Numbers.{each};
 ghost use Rattle.plan_text.specs.Lines.{isPlain, isSkipped, parts, letterIn, fieldsIn};
 ghost use Rattle.plan_text.specs.Records.{letters, position, sectionOf, layoutOf, fieldsRead, noRecord, recordWith};
 ghost use Rattle.plan_text.specs.Reading.{follows};
-ghost use Rattle.plan_text.specs.ReaderParts.{numberRead, formOf};
-use bytes::scan::find;
+ghost use Rattle.plan_text.specs.ReaderParts.{formOf};
 use plan_text::Fields;
 use plan_text::Form;
 use plan_text::Record;
 use plan_text::TextAnswer;
+use record_fields::fields_of;
 use record_ranges::field_count;
 
 fn is_plain_byte(b: u8) -> bool
@@ -81,58 +81,6 @@ fn section_of(line: &[u8]) -> u32
         }
     }
     section_of_letter(line[0])
-}
-
-// What is read of a field that is no number; 5 digits never say it.
-const NO_NUMBER: u32 = 100000;
-
-// The number that 1 to 5 digits say.
-pub fn number(digits: &[u8]) -> u32
-    ensures { λ r. ⌜ r ≡ numberRead (now (digits .entry)) ⌝ }
-{
-    if digits.len() < 1 {
-        return NO_NUMBER;
-    }
-    if 5 < digits.len() {
-        return NO_NUMBER;
-    }
-    let mut x: u32 = 0;
-    let mut i = 0;
-    while i < digits.len() {
-        let b = digits[i];
-        if b < b'0' {
-            return NO_NUMBER;
-        }
-        if b'9' < b {
-            return NO_NUMBER;
-        }
-        x = 10 * x + (b - b'0') as u32;
-        i += 1;
-    }
-    x
-}
-
-// The fields go from tab to tab: `at` is the tab before the next one, and the length where no other is left.
-pub fn fields_of(line: &[u8]) -> Fields
-    ensures { λ r. ⌜ r ≡ fieldsRead (fieldsIn (parts (now (line .entry)))) ⌝ }
-{
-    let mut numbers = [0u32; 4];
-    let mut count = 0;
-    let mut at = find(line, 0, line.len(), b'\t');
-    while at < line.len() {
-        let end = find(line, at + 1, line.len(), b'\t');
-        let x = number(&line[at + 1..end]);
-        if x == NO_NUMBER {
-            return Fields { count: 5, numbers };
-        }
-        if count == 4 {
-            return Fields { count: 5, numbers };
-        }
-        numbers[count] = x;
-        count += 1;
-        at = end;
-    }
-    Fields { count, numbers }
 }
 
 // Question 3: the section of a record after one of the section `last`, 0 for none.

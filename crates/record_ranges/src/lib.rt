@@ -1,10 +1,9 @@
 // The ranges of a record's numbers: one table of the seven sections, and the test that reads it.
 ghost use mathlib.Core.Path.{_≡_};
-ghost use Prim.Native.Nat.{_<_};
 ghost use lib.ListN.{length};
-ghost use Rattle.plan_text.specs.Records.{layoutOf, highestIn, inRanges};
+ghost use Rattle.plan_text.specs.Records.{layoutOf, inRanges};
 ghost use Rattle.plan_text.specs.ReaderParts.{knownWith};
-ghost use Rattle.record_ranges.specs.Table.{numberIn, fieldAt, highestBy};
+ghost use Rattle.record_ranges.specs.Table.{rowOf, highestBy};
 use entries::entry_of;
 use plan_text::Counts;
 use plan_text::Record;
@@ -22,26 +21,27 @@ const LAYOUTS: [[u32; 13]; 7] = [
     [2, 1, 1, 0, 0, 1, 255, 0, 0, 0, 0, 0, 0], // K
 ];
 
-// A number of the table; 0 where there is no such section.
-fn layout_number(section: u32, column: usize) -> u32
-    requires { ⌜ column < 13 ⌝ }
-    ensures { λ r. ⌜ r ≡ numberIn (layoutOf section) column ⌝ }
+// A section's row of the table; zeros where there is no such section. It is read once for a record: a constant is laid down
+// anew wherever it is named.
+fn layout_row(section: u32) -> [u32; 13]
+    ensures { λ r. ⌜ r ≡ rowOf (layoutOf section) ⌝ }
 {
     if section < 1 {
-        return 0;
+        return [0; 13];
     }
     if 7 < section {
-        return 0;
+        return [0; 13];
     }
     let row = (section - 1) as usize;
-    LAYOUTS[row][column]
+    LAYOUTS[row]
 }
 
 // How many fields the records of a section have.
 pub fn field_count(section: u32) -> usize
     ensures { λ r. ⌜ r ≡ length (layoutOf section) ⌝ }
 {
-    layout_number(section, 0) as usize
+    let row = layout_row(section);
+    row[0] as usize
 }
 
 // The highest number of a field by what it is, which goes by the plan, and by the number before it, for 1 to 5.
@@ -65,23 +65,6 @@ fn highest_by<'a>(
     }
 }
 
-// The highest number of a field of a section.
-fn highest<'a>(
-    section: u32,
-    field: usize,
-    before: u32,
-    counts: Counts,
-    capacity: &'a [u8; 32],
-    lengths: &'a [u8; 16],
-) -> u32
-    requires { ⌜ field < 4 ⌝ }
-    ensures { λ r. ⌜ r ≡ highestIn (knownWith counts (now (capacity .entry)) (now (lengths .entry))) before (fieldAt (layoutOf section) field) ⌝ }
-{
-    let code = layout_number(section, 3 * field + 1);
-    let fixed = layout_number(section, 3 * field + 3);
-    highest_by(code, fixed, before, counts, capacity, lengths)
-}
-
 // Are the numbers of a record in the ranges of its fields?
 pub fn in_ranges<'a>(
     rec: Record,
@@ -92,16 +75,21 @@ pub fn in_ranges<'a>(
     ensures { λ r. ⌜ r ≡ inRanges (knownWith counts (now (capacity .entry)) (now (lengths .entry))) rec ⌝ }
 {
     let section = rec.section;
-    let count = field_count(section);
+    let row = layout_row(section);
+    let count = row[0] as usize;
     let numbers = [rec.first, rec.second, rec.third, rec.fourth];
     let mut before = 0;
     let mut i = 0;
     while i < count {
         let x = numbers[i];
-        if x < layout_number(section, 3 * i + 2) {
+        let code = row[3 * i + 1];
+        let low = row[3 * i + 2];
+        let fixed = row[3 * i + 3];
+        let high = highest_by(code, fixed, before, counts, capacity, lengths);
+        if x < low {
             return false;
         }
-        if highest(section, i, before, counts, capacity, lengths) < x {
+        if high < x {
             return false;
         }
         before = x;

@@ -1,18 +1,23 @@
 -- Every row of the table of worked runs holds: antt computes the definitions on it.
 use mathlib.Core.List.{map}
 use mathlib.Core.Path.{_≡_, refl}
-use Rattle.model.specs.Plan.{isStage, allStages, stageOf, demandOf, weightOf}
+use Rattle.model.specs.Plan.{emptyPlan, isStage, allStages, stageOf, demandOf, weightOf}
 use Rattle.model.specs.Jobs.{overStages, exceeded, broken, fits, agreeing}
 use Rattle.model.specs.Soundness.{soundCounts, soundCapacities, soundRanks, soundLengths, soundBounds, soundStage, sound}
 use Rattle.model.specs.Upstream.{rankedUpTo, upstreamOf, oneUnit, faultyStage, faultyType, upstreamRow, faultyRow, faultyBound, check}
 use Rattle.events.specs.JobList.{listOf, agrees}
 use Rattle.events.specs.Events.{answer, listAfter}
 use Rattle.events.specs.Drain.{drainFrom, listDrain}
+use Rattle.plan_text.specs.Records.{recordIn, inRanges}
+use Rattle.plan_text.specs.Written.{emptyDraft, indexIn, written, heldIn}
+use Rattle.plan_text.specs.Reading.{isComplete, reading}
+use Rattle.worked.specs.Texts.{capacityText, stagesText, moreStagesText, crossingText, planNumbers}
 use Rattle.worked.specs.Plans.{crossingWith, crossingPlan, equation40, withoutRows, oneStation, jobsPerStage}
 use Rattle.worked.specs.Runs.{Row, result, rows}
 
 pub every-row-holds : map (λ (r : Row). result (r .asked)) rows ≡ map (λ (r : Row). r .expected) rows
 unfolding allStages stageOf demandOf weightOf overStages exceeded broken isStage fits agreeing soundCounts soundCapacities soundRanks soundLengths
     soundBounds soundStage sound rankedUpTo upstreamOf oneUnit faultyStage faultyType upstreamRow faultyRow faultyBound check listOf agrees
-    answer listAfter drainFrom listDrain crossingWith crossingPlan equation40 withoutRows oneStation jobsPerStage result rows
+    answer listAfter drainFrom listDrain emptyPlan recordIn inRanges emptyDraft indexIn written heldIn isComplete reading capacityText stagesText
+    moreStagesText crossingText planNumbers crossingWith crossingPlan equation40 withoutRows oneStation jobsPerStage result rows
 every-row-holds = refl

@@ -1,6 +1,5 @@
--- Document 01's starred runs that need no plan text, as rows of one table: what is asked, and the numbers that the paper
--- gives for it. With them the events of its whole run, a number used again after its unload, and both sides of the largest
--- number.
+-- Document 01's starred runs, as rows of one table: what is asked, and the numbers that the paper gives for it. With them the
+-- crossing plan's text, the events of the whole run, a number used again after its unload, and both sides of the largest number.
 use Prim.Native.Nat.{ℕ, zero, suc}
 use mathlib.Core.List.{List, [], _∷_, _++_, map}
 use Rattle.model.specs.Upstream.{check, checkNumbers}
@@ -13,10 +12,15 @@ use Rattle.events.specs.Drain.{listDrain, endNumber}
 use Rattle.events.specs.declared.JobList.{JobList}
 use Rattle.events.specs.declared.Event.{Event}
 use Rattle.events.specs.declared.Event.the-variants.{Load, Advance, Unload}
+use Rattle.plan_text.specs.TextQuestions.{textNumber}
+use Rattle.plan_text.specs.Reading.{reading}
+use Rattle.worked.specs.Texts.{capacityText, stagesText, moreStagesText, crossingText, planNumbers}
 use Rattle.worked.specs.Plans.{crossingWith, crossingPlan, equation40, withoutRows, oneStation, jobsPerStage}
 
 -- what is asked
 pub data Run : Type 0 where
+  read : List ℕ → Run
+  planned : List ℕ → Run
   checked : Plan → Run
   weighed : Plan → List Job → Run
   drained : Plan → List Job → ℕ → Run
@@ -38,11 +42,13 @@ lines p t (e ∷ es) =
     let next = listAfter p t e in
     a .0 ∷ a .1 ∷ next .count ∷ lines p next es
 
--- the numbers that the definitions give: of a check its answer and two places; of jobs against the rows each row's sum
--- and the row broken; of a drain its answer and moves, of an event its answer and place, both with the stages at which the
+-- the numbers that the definitions give: of a text its answer and line, or all numbers of its plan; of a check its answer and
+-- two places; of jobs against the rows each row's sum and the row broken; of a drain its answer and moves, of an event its answer and place, both with the stages at which the
 -- jobs then stand; of events from the empty table the lines above
 unfoldable pub result : Run → List ℕ
 unfolding sums stagesOf lines
+result (read text) = let r = reading text in textNumber (r .answer) ∷ r .line ∷ []
+result (planned text) = planNumbers (reading text .plan)
 result (checked p) = let c = checkNumbers (check p) in c .0 ∷ c .1 ∷ c .2 ∷ []
 result (weighed p js) = sums p js (p .rows) ++ broken p js ∷ []
 result (drained p js budget) =
@@ -64,12 +70,19 @@ row r xs = record { asked = r; expected = xs }
 wholeRun : List Event
 wholeRun = Load 7 1 ∷ Load 8 2 ∷ Advance 7 ∷ Load 8 2 ∷ Advance 7 ∷ Load 8 2 ∷ Unload 7 ∷ Load 8 2 ∷ []
 
--- in document 01's order: the upstream check, the rows of Equation 40, the drains, the advance within one station; then the
+-- in document 01's order: the texts, the upstream check, the rows of Equation 40, the drains, the advance within one station; then the
 -- further runs
 unfoldable pub rows : List Row
 unfolding row wholeRun
 rows =
-    row (checked crossingPlan) (0 ∷ 0 ∷ 0 ∷ [])
+    row (read []) (7 ∷ 1 ∷ [])
+    ∷ row (read (capacityText 255)) (7 ∷ 3 ∷ [])
+    ∷ row (read (capacityText 256)) (5 ∷ 2 ∷ [])
+    ∷ row (read stagesText) (7 ∷ 7 ∷ [])
+    ∷ row (read moreStagesText) (5 ∷ 7 ∷ [])
+    ∷ row (read crossingText) (0 ∷ 0 ∷ [])
+    ∷ row (planned crossingText) (planNumbers crossingPlan)
+    ∷ row (checked crossingPlan) (0 ∷ 0 ∷ 0 ∷ [])
     ∷ row (checked (crossingWith 2 0)) (25 ∷ 2 ∷ 0 ∷ [])
     ∷ row (checked (crossingWith 1 1)) (24 ∷ 1 ∷ 0 ∷ [])
     ∷ row (weighed equation40 (jobsPerStage 1 0 0 1 1 0)) (4 ∷ 2 ∷ 7 ∷ 0 ∷ [])

@@ -1,9 +1,9 @@
 -- Each turn finds a line, asks its questions in two groups and writes its record; what is left to read stays what was to be read.
 use Prim.Native.Nat.{ℕ, _+_, _-_, _≤_, _<_}
 use native.Mathlib.Omega.{arith}
-use mathlib.Core.Bool.{true, false}
+use mathlib.Core.Bool.{true}
 use mathlib.Core.List.{List, []}
-use mathlib.Core.Path.{_≡_, refl, sym, ap, subst, _∙_}
+use mathlib.Core.Path.{_≡_, refl, sym, ap, _∙_}
 use denote.Ref.{now}
 use lib.ListN.{length, getD, set}
 use Rattle.bytes.specs.Bytes.{slice, indexOf}
@@ -141,7 +141,8 @@ module _ (c : tie.After-record-answer Inv-loop μ-loop) where
   record-written accepted s e made =
       let k = knownWith (t .loop .head .counts) (t .loop .capacity) (t .loop .lengths) in
       let met = ap (inRanges k) read-told ∙ record-met k (t .loop .lengths) there-read (heldIn (draft t) there-read) accepted .0 in
-      parts-written (t .loop .head) (t .loop .capacity) (t .loop .rank) (t .loop .bound) (t .loop .lengths) (t .loop .stages) (t .loop .bounded) read (turning f .small) met place (place-told met) s (made ∙ ap (λ x. stageAfter x (narrowed read)) (copied e))
+      parts-written (t .loop .head) (t .loop .capacity) (t .loop .rank) (t .loop .bound) (t .loop .lengths) (t .loop .stages) (t .loop .bounded) read
+      (turning f .small) met place (place-told met) s (made ∙ ap (λ x. stageAfter x (narrowed read)) (copied e))
       ∙ ap (written (draft t)) read-told
 
 no-head-requires : tie.Need-no-head-requires Inv-loop μ-loop
@@ -158,6 +159,9 @@ loop-holds c =
 
 find-requires : tie.Need-find-requires Inv-loop μ-loop
 find-requires c κs = search needs
+
+add-next : tie.Need-add-next Inv-loop μ-loop
+add-next c = search needs
 
 add-line : tie.Need-add-line Inv-loop μ-loop
 add-line c = search needs
@@ -227,11 +231,6 @@ write-bound-requires c κs = search needs
 head-after-requires : tie.Need-head-after-requires Inv-loop μ-loop
 head-after-requires c κs = search needs
 
-add-at : tie.Need-add-at Inv-loop μ-loop
-add-at c =
-    let d = c .before .before .before .before .before .before .before .before .before .before .before in
-    omega (arith, searched d, short (t d))
-
 loop-less : tie.Need-loop-less Inv-loop μ-loop
 loop-less c = let d = c .before .before .before .before .before .before .before .before .before .before .before in omega (arith, searched d)
 
@@ -274,6 +273,7 @@ read-lines-spec =
     empty-plan-requires
     loop-holds
     find-requires
+    add-next
     add-line
     form-at-requires
     enum-told
@@ -292,7 +292,6 @@ read-lines-spec =
     write-entries-requires
     write-bound-requires
     head-after-requires
-    add-at
     loop-less
     loop-again
     plan-with-requires

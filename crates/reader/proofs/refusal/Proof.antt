@@ -1,7 +1,6 @@
 -- A refusal hands back the empty plan.
 use mathlib.Core.Path.{ap}
 use borrow.Author.Needs.{needs}
-use Rattle.plan_text.specs.Reading.{refused}
 use Rattle.reader.proofs.refusal.Statement.{statement}
 use Rattle.reader.proofs.refusal.Tie as tie
 

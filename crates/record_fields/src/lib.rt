@@ -1,0 +1,59 @@
+// The fields of a line of the plan text, and their numbers.
+ghost use mathlib.Core.Path.{_≡_};
+ghost use Rattle.plan_text.specs.Lines.{parts, fieldsIn};
+ghost use Rattle.plan_text.specs.Records.{fieldsRead};
+ghost use Rattle.plan_text.specs.ReaderParts.{numberRead};
+use bytes::scan::find;
+use plan_text::Fields;
+
+// What is read of a field that is no number; 5 digits never say it.
+const NO_NUMBER: u32 = 100000;
+
+// The number that 1 to 5 digits say.
+pub fn number(digits: &[u8]) -> u32
+    ensures { λ r. ⌜ r ≡ numberRead (now (digits .entry)) ⌝ }
+{
+    if digits.len() < 1 {
+        return NO_NUMBER;
+    }
+    if 5 < digits.len() {
+        return NO_NUMBER;
+    }
+    let mut x: u32 = 0;
+    let mut i = 0;
+    while i < digits.len() {
+        let b = digits[i];
+        if b < b'0' {
+            return NO_NUMBER;
+        }
+        if b'9' < b {
+            return NO_NUMBER;
+        }
+        x = 10 * x + (b - b'0') as u32;
+        i += 1;
+    }
+    x
+}
+
+// The fields go from tab to tab: `at` is the tab before the next one, and the length where no other is left.
+pub fn fields_of(line: &[u8]) -> Fields
+    ensures { λ r. ⌜ r ≡ fieldsRead (fieldsIn (parts (now (line .entry)))) ⌝ }
+{
+    let mut numbers = [0u32; 4];
+    let mut count = 0;
+    let mut at = find(line, 0, line.len(), b'\t');
+    while at < line.len() {
+        let end = find(line, at + 1, line.len(), b'\t');
+        let x = number(&line[at + 1..end]);
+        if x == NO_NUMBER {
+            return Fields { count: 5, numbers };
+        }
+        if count == 4 {
+            return Fields { count: 5, numbers };
+        }
+        numbers[count] = x;
+        count += 1;
+        at = end;
+    }
+    Fields { count, numbers }
+}

@@ -1,0 +1,52 @@
+// Plan texts at the reader's entrance, and both sides of each of its questions. Each line of standard input is a case: its
+// name, a space, and its text as document 01 writes one, with two things more (text.rt).
+//
+//   a space is a tab, / a line end         <13> is the byte 13, and so for any byte
+//   (n*..) is n times what stands between, in which % is the turn, from 01, in two digits
+//
+// A line whose name is > says what the texts of the cases below it begin with. Empty lines and lines that begin with # are
+// skipped. Input beyond 65,536 bytes is not read. What is written of a case is in show.rt and plan.rt.
+mod plan;
+mod show;
+mod text;
+
+use bytes::scan::find;
+use libc::STDIN_FILENO;
+use text::Space;
+use text::put_text;
+
+fn case(name: &[u8], line: &[u8], space: &mut Space, kept: usize) -> usize {
+    let n = put_text(line, name.len(), space, kept);
+    show::case(name, space, n);
+    kept
+}
+
+// Without a space the text is empty. Hands back how many bytes of the space the next texts begin with.
+fn next(line: &[u8], space: &mut Space, kept: usize) -> usize {
+    let end = find(line, 0, line.len(), b' ');
+    if end == 0 {
+        return kept;
+    }
+    match line[0] {
+        b'#' => kept,
+        b'>' => put_text(line, end, space, 0),
+        _ => case(&line[0..end], line, space, kept),
+    }
+}
+
+fn run(cases: &[u8], space: &mut Space) {
+    let mut kept = 0;
+    let mut at = 0;
+    while at < cases.len() {
+        let end = find(cases, at, cases.len(), b'\n');
+        kept = next(&cases[at..end], space, kept);
+        at = end + 1;
+    }
+}
+
+fn main() {
+    let mut cases = io::large_buffer();
+    let mut space = [0u8; 65600];
+    let n = io::read_full(STDIN_FILENO, &mut cases);
+    run(&cases[..n], &mut space);
+}
