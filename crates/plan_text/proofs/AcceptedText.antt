@@ -1,22 +1,27 @@
--- What an accepted text is: its records were taken one by one and are complete, so its plan is sound and holds a value exactly
--- when the text has the record; and two accepted texts with the same records have the same plan.
+-- What an accepted text is: its records were taken one by one and are complete, so its plan is sound. A refused text has the
+-- empty plan, and a text that is too long is refused whatever it holds.
 use Prim.Native.Nat.{ℕ, _+_, _≤_, _<_}
 use native.Mathlib.Omega.{arith}
-use mathlib.Core.Bool.{Bool, true, cond, false≢true}
-use mathlib.Core.List.{List, [], _∷_, _++_, append-assoc, append-nil}
+use mathlib.Core.Bool.{Bool, true, false, cond, false≢true}
+use mathlib.Core.List.{List, [], _∷_, _++_, map, append-assoc, append-nil}
+use mathlib.Core.Logic.{_≢_}
 use mathlib.Core.Path.{_≡_, refl, sym, ap}
+use lib.Dec.{leb}
 use lib.ListN.{length, drop}
 use borrow.Author.Tests.{lt-leb, eq-eqb}
 use Rattle.model.specs.Numbers.{at}
+use Rattle.model.specs.Questions.{Question, answerOf}
+use Rattle.model.specs.Plan.{emptyPlan}
 use Rattle.model.specs.Soundness.{Sound}
 use Rattle.model.proofs.Decide.{Decides, holding, failing, decides-le}
 use Rattle.model.proofs.Decide as decide
 use Rattle.plan_text.specs.Lines.{Line, linesOf, isSkipped}
 use Rattle.plan_text.specs.Records.{recordIn}
-use Rattle.plan_text.specs.Written.{emptyDraft, draftOf, planOf, written}
+use Rattle.plan_text.specs.Written.{Draft, emptyDraft, draftOf, planOf, written}
 use Rattle.plan_text.specs.TextQuestions.{maxText, textNumber, recordsOf, Complete}
-use Rattle.plan_text.specs.Reading.{refused, accepted, readFrom, reading}
+use Rattle.plan_text.specs.Reading.{refused, accepted, readFrom, reading, ofLine, formQuestions, recordQuestions, isComplete}
 use Rattle.plan_text.specs.declared.Record.{Record}
+use Rattle.plan_text.specs.declared.TextAnswer.{TextAnswer}
 use Rattle.plan_text.specs.declared.TextAnswer.the-variants.{TooLong, Incomplete}
 use Rattle.plan_text.specs.declared.Reading.{Reading}
 use Rattle.plan_text.proofs.Kept.{Kept}
@@ -29,6 +34,41 @@ pub record Whole (rs : List Record) (a : Reading) : Type 0 where
   pub kept : Kept rs (draftOf rs)
   pub complete : Complete rs
   pub handed : a ≡ accepted (planOf rs)
+
+-- a refusal has the empty plan, in whichever line it comes
+abbrev EmptyIfRefused : Reading → Type 0
+EmptyIfRefused a = textNumber (a .answer) ≢ 0 → a .plan ≡ emptyPlan
+
+refused-in : (n from to : ℕ) (next : Reading) (qs : List (Question TextAnswer)) → EmptyIfRefused next
+    → EmptyIfRefused (answerOf next (map (ofLine n from to) qs))
+refused-in n from to next [] h = h
+refused-in n from to next (q ∷ qs) h = go (q .met) (refused-in n from to next qs h)
+  where
+    go : (b : Bool) → EmptyIfRefused (answerOf next (map (ofLine n from to) qs))
+        → EmptyIfRefused (cond b (answerOf next (map (ofLine n from to) qs)) (refused (q .refusal) n from to))
+    go true rest = rest
+    go false rest = λ ne. refl
+
+refused-from : (n from : ℕ) (d : Draft) (ls : List Line) → EmptyIfRefused (readFrom n from d ls)
+refused-from n from d [] = go (isComplete d)
+  where
+    go : (b : Bool) → EmptyIfRefused (cond b (accepted (d .plan)) (refused Incomplete (n + 1) 0 0))
+    go true ne = absurd (ne refl)
+    go false ne = refl
+refused-from n from d (l ∷ ls) =
+    let to = from + length (l .bytes) in
+    let r = recordIn (l .bytes) in
+    refused-in (n + 1) from to (readFrom (n + 1) (to + 1) (written d r) ls) (formQuestions (d .section) l ++ recordQuestions d r)
+    (refused-from (n + 1) (to + 1) (written d r) ls)
+
+-- demand 1: a refused text yields the empty plan
+pub refused-empty : (text : List ℕ) → textNumber (reading text .answer) ≢ 0 → reading text .plan ≡ emptyPlan
+unfolding reading
+refused-empty text = go (leb (length text) maxText)
+  where
+    go : (b : Bool) → EmptyIfRefused (cond b (readFrom 0 0 emptyDraft (linesOf text)) (refused TooLong 0 0 0))
+    go true = refused-from 0 0 emptyDraft (linesOf text)
+    go false = λ ne. refl
 
 module _ (text : List ℕ) where
   whole-end : (rs : List Record) (n from : ℕ) → Kept rs (draftOf rs) → isOk (readFrom n from (draftOf rs) []) ≡ true

@@ -1,6 +1,6 @@
 -- The computed reading is the first failure as worded: line by line, each test decides its question, and where all are met the
 -- draft goes on with the line's record.
-use Prim.Native.Nat.{ℕ, _+_, _-_, _<_}
+use Prim.Native.Nat.{ℕ, _+_, _-_, _≤_, _<_}
 use native.Mathlib.Omega.{arith}
 use mathlib.Core.Bool.{Bool, true, false, cond, _||_, false≢true}
 use mathlib.Core.List.{List, [], _∷_, _++_, append-assoc, append-nil}
@@ -12,13 +12,14 @@ use lib.Seq.{set-getD}
 use borrow.Author.Tests.{eqb-true}
 use Rattle.bytes.specs.Bytes.{slice, indexOf}
 use Rattle.model.specs.Questions.{FirstFailure}
-use Rattle.model.specs.Plan.{noStage}
+use Rattle.model.specs.Limits.{maxAllStages}
+use Rattle.model.specs.Plan.{noStage, allStages}
 use Rattle.model.proofs.Decide.{Decides, holding, decided, passes, decides-iff, decides-le, decides-lt}
 use Rattle.model.proofs.Decide.{Answers, done, asked, AllHold, choose, failure-append, first-failure-then}
 use Rattle.plan_text.specs.Lines.{Line, lineEnd, linesOf, isSkipped, parts, letterIn, fieldsIn}
 use Rattle.plan_text.specs.Records.{knownOf, recordIn, noRecord, InRanges, inRanges, sectionOf, fieldsRead, layoutOf}
 use Rattle.plan_text.specs.Written.{Draft, emptyDraft, indexIn, written, writtenAll, draftOf, planOf, heldIn}
-use Rattle.plan_text.specs.TextQuestions.{textNumber, Refuses, IsRecord, recordsOf, Follows, WellFielded, FirstWithKey, WithinTotal}
+use Rattle.plan_text.specs.TextQuestions.{textNumber, Refuses, IsRecord, recordsOf, Follows, WellFielded, FirstWithKey, WithinTotal, lastSection}
 use Rattle.plan_text.specs.TextQuestions.{maxText, lineConditions, conditionsFrom, textConditions, Accepts}
 use Rattle.plan_text.specs.Reading.{refused, accepted, follows, withinTotal, lineQuestions, readFrom, reading}
 use Rattle.plan_text.specs.declared.Record.{Record}
@@ -74,14 +75,20 @@ module _ (text : List ℕ) (rs : List Record) (kept : Kept rs (draftOf rs)) (n f
   abbrev r : Record
   r = recordIn (l .bytes)
 
+  one-more : draftOf (rs ++ r ∷ []) ≡ written d r
+  one-more = draft-more emptyDraft rs (r ∷ [])
+
   refusal : (number : ℕ) (a : TextAnswer) → textNumber a ≡ number → Refuses text number n (l .bytes) (refused a n from (from + length (l .bytes)))
   refusal number a e = record { number = e; line = refl; shown = shown; plan = refl }
 
   section-of : IsRecord l → r .section ≡ sectionOf (letterIn (parts (l .bytes)))
   section-of e = ap (λ (q : Record). q .section) (record-in (l .bytes) e)
 
-  met-three : Decides (IsRecord l → Follows (d .section) (sectionOf (letterIn (parts (l .bytes))))) (isSkipped (l .bytes) || follows (d .section) (r .section))
-  met-three = decides-record (isSkipped (l .bytes)) (λ e. rw (section-of e) (decides-follows (d .section) (sectionOf (letterIn (parts (l .bytes))))))
+  met-three : Decides (IsRecord l → Follows (lastSection rs) (sectionOf (letterIn (parts (l .bytes)))))
+      (isSkipped (l .bytes) || follows (d .section) (r .section))
+  met-three =
+      decides-record (isSkipped (l .bytes))
+      (λ e. rw (section-of e, ← (kept .last)) (decides-follows (d .section) (sectionOf (letterIn (parts (l .bytes))))))
 
   met-four : Decides (IsRecord l → WellFielded l)
       (isSkipped (l .bytes) || eqb (fieldsRead (fieldsIn (parts (l .bytes))) .count) (length (layoutOf (r .section))))
@@ -93,9 +100,9 @@ module _ (text : List ℕ) (rs : List Record) (kept : Kept rs (draftOf rs)) (n f
   unfolding inRanges
   met-five = decides-unless (isSkipped (l .bytes)) (λ e. rw (skipped-in (l .bytes) e) refl) (λ e. decides-ranges (knownOf (d .plan)) r)
 
-  module _ (three : IsRecord l → Follows (d .section) (sectionOf (letterIn (parts (l .bytes))))) (five : IsRecord l → InRanges (knownOf (d .plan)) r) where
+  module _ (three : IsRecord l → Follows (lastSection rs) (sectionOf (letterIn (parts (l .bytes))))) (five : IsRecord l → InRanges (knownOf (d .plan)) r) where
     follows-last : IsRecord l → Follows (d .section) (r .section)
-    follows-last e = rw (section-of e) (three e)
+    follows-last e = rw (section-of e, kept .last) (three e)
 
     met-six : Decides (IsRecord l → FirstWithKey rs r) (eqb (heldIn d r) 0)
     unfolding heldIn
@@ -109,7 +116,9 @@ module _ (text : List ℕ) (rs : List Record) (kept : Kept rs (draftOf rs)) (n f
     met-total : (IsRecord l → FirstWithKey rs r) → Decides (IsRecord l → WithinTotal rs r) (withinTotal (d .plan .lengths) r)
     met-total six =
         decides-unless (isSkipped (l .bytes)) (λ e. rw (skipped-in (l .bytes) e) refl)
-        (λ e. decides-total rs d kept r (follows-last e .0) (five e) (nothing-held e (six e)) (follows-last e .2))
+        (λ e.
+        subst (λ (c : Draft). Decides (allStages (c .plan) ≤ maxAllStages) (withinTotal (d .plan .lengths) r)) (sym one-more)
+        (decides-total rs d kept r (follows-last e .0) (five e) (nothing-held e (six e)) (follows-last e .2)))
 
   pub line-answers : Answers isOk (lineQuestions n from d l) (lineConditions text rs n l)
   line-answers =
@@ -134,15 +143,13 @@ module _ (text : List ℕ) (rs : List Record) (kept : Kept rs (draftOf rs)) (n f
           ranges = all .1 .1 .1 .0 e;
           blank = rw (record-in (l .bytes) e) (fielded-blank (fieldsIn (parts (l .bytes))) (sectionOf (letterIn (parts (l .bytes)))) (all .1 .1 .0 e));
           first = nothing-held (all .1 .0) (all .1 .1 .1 .0) e (all .1 .1 .1 .1 .0 e);
-          total = all .1 .1 .1 .1 .1 .0 e;
+          total = subst (λ (c : Draft). allStages (c .plan) ≤ maxAllStages) one-more (all .1 .1 .1 .1 .1 .0 e);
         }
 
     pub goes-on : (b : Bool) → isSkipped (l .bytes) ≡ b
         → (Kept (rs ++ recordsOf (l ∷ [])) (draftOf (rs ++ recordsOf (l ∷ [])))) × (draftOf (rs ++ recordsOf (l ∷ [])) ≡ written d r)
     goes-on true e = rw (e, append-nil rs, skipped-in (l .bytes) e) (kept, sym (nothing-written d))
-    goes-on false e =
-        let more : draftOf (rs ++ r ∷ []) ≡ written d r = draft-more emptyDraft rs (r ∷ []) in
-        rw e (subst (Kept (rs ++ r ∷ [])) (sym more) (kept-after rs d kept r (taken e)), more)
+    goes-on false e = rw e (subst (Kept (rs ++ r ∷ [])) (sym one-more) (kept-after rs d kept r (taken e)), one-more)
 
 pub records-more : (l : Line) (ls : List Line) → recordsOf (l ∷ ls) ≡ recordsOf (l ∷ []) ++ recordsOf ls
 records-more l ls = go (isSkipped (l .bytes))

@@ -23,7 +23,7 @@ use Rattle.plan_text.specs.Records.{InRanges, Has}
 use Rattle.plan_text.specs.Written.{Draft, emptyDraft, put, withDemand, withWeight, typeIn, stageIn, indexIn}
 use Rattle.plan_text.specs.Written.{entriesAfter, boundedAfter, stageAfter, stageHere}
 use Rattle.plan_text.specs.Written.{written, heldIn}
-use Rattle.plan_text.specs.TextQuestions.{Follows}
+use Rattle.plan_text.specs.TextQuestions.{Follows, lastSection}
 use Rattle.plan_text.specs.Meaning.{line}
 use Rattle.plan_text.specs.declared.Record.{Record}
 use Rattle.plan_text.proofs.RecordLists.{held-still, held-more, put-same, put-other, put-length, entries-length}
@@ -92,6 +92,7 @@ pub record Ranged (k : Known) (q : Record) : Type 0 where
 pub record Kept (rs : List Record) (d : Draft) : Type 0 where
   pub sizes : Sizes d
   pub fresh : d .section ≡ 0 → (rs ≡ []) × (d ≡ emptyDraft)
+  pub last : d .section ≡ lastSection rs
   pub counted : 1 ≤ d .section → Has rs (line 1 (d .plan .resources) (d .plan .types) (d .plan .rows) 0)
   pub one-count : (a b c : ℕ) → Has rs (line 1 a b c 0) → (a ≡ d .plan .resources) × (b ≡ d .plan .types) × (c ≡ d .plan .rows)
   pub unwritten : d .section ≤ 3 → d .plan .stages ≡ replicate maxAllStages noStage

@@ -18,6 +18,7 @@ use Rattle.model.proofs.Lists.{replicated, append-each, each-map}
 use Rattle.plan_text.specs.Records.{Field, number, resource, kind, row, stage, units, Known, knownOf, highestIn, InFields, InRanges, Has}
 use Rattle.plan_text.specs.Records.{layoutOf, numbersOf}
 use Rattle.plan_text.specs.Written.{Draft, emptyDraft, entriesAfter, stageHere, written, heldIn}
+use Rattle.plan_text.specs.TextQuestions.{lastSection}
 use Rattle.plan_text.specs.Meaning.{line}
 use Rattle.plan_text.specs.declared.Record.{Record}
 use Rattle.plan_text.proofs.RecordLists.{some-append, append-left, append-right, has-each, put-other}
@@ -186,6 +187,11 @@ module _ (rs : List Record) (d : Draft) (kept : Kept rs d) where
     unfolding written
     section-after = rw (ne-eqb (r .section) 0 (λ e. omega (arith, taken .follows))) refl
 
+    last-after : (qs : List Record) → lastSection (qs ++ r ∷ []) ≡ r .section
+    last-after [] = refl
+    last-after (q ∷ []) = refl
+    last-after (q ∷ p ∷ qs) = last-after (p ∷ qs)
+
     counted-after : Has (rs ++ r ∷ []) (line 1 (written d r .plan .resources) (written d r .plan .types) (written d r .plan .rows) 0)
     unfolding written
     counted-after =
@@ -227,6 +233,7 @@ module _ (rs : List Record) (d : Draft) (kept : Kept rs d) where
         record {
           sizes = sizes-after d r (kept .sizes);
           fresh = λ e. absurd (omega (arith, section-after, e, taken .follows));
+          last = section-after ∙ sym (last-after rs);
           counted = λ h. counted-after;
           one-count = one-count-after;
           unwritten = λ low.
@@ -258,6 +265,7 @@ nothing-kept =
       sizes =
           record { capacity = refl; rank = refl; bound = refl; bounded = refl; lengths = refl; stages = refl; demand = sized-demand; weight = sized-weight };
       fresh = λ e. (refl, refl);
+      last = refl;
       counted = λ h. absurd (omega arith);
       one-count = λ a b c h. absurd h;
       unwritten = λ low. refl;

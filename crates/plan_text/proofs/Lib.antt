@@ -1,4 +1,4 @@
--- The laws of the plan text. Read in this order.
+-- The laws of the plan text, about its definitions. Read in this order.
 pub mod Split
 pub mod LineByLine
 pub mod LineForm
@@ -12,5 +12,6 @@ pub mod Completeness
 pub mod FirstFailure
 pub mod AcceptedText
 pub mod SamePlan
+-- What serves the proofs of code: a line's questions in groups, numbers cut to what entries hold, and the tags of an answer.
 pub mod ReaderSteps
 pub mod TextAnswerTags

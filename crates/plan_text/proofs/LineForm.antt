@@ -2,13 +2,14 @@
 -- exactly when each is a number, and the numbers that a record does not have stay 0.
 use Prim.Native.Nat.{ℕ, zero, suc, _+_, _≤_, _<_}
 use native.Mathlib.Nat.{add-zero, zero-add}
+use native.Mathlib.Numerals.{add-one}
 use native.Mathlib.Omega.{arith}
 use mathlib.Core.Bool.{Bool, true, false, cond, _&&_, _||_, false≢true}
-use mathlib.Core.List.{List, [], _∷_}
+use mathlib.Core.List.{List, [], _∷_, _++_, map, append-assoc, append-nil}
 use mathlib.Core.Path.{_≡_, refl, sym, _∙_}
 use lib.Dec.{eqb, ltb}
-use lib.ListN.{length, drop, getD, set}
-use lib.Seq.{getD-set-other}
+use lib.ListN.{length, take, drop, getD, set, length-set}
+use lib.Seq.{getD-set-other, take-suc-set}
 use borrow.Author.Tests.{ne-eqb, lt-ltb}
 use Rattle.model.specs.Numbers.{Each, each}
 use Rattle.model.proofs.Decide.{Decides, holding, failing, passes, decides-iff, decides-eq, decides-le, decides-lt, decides-range}
@@ -69,6 +70,20 @@ fields-after n xs (f ∷ fs) i h = go (fields-after (n + 1) _ fs i (omega arith)
         → (b : Bool) → getD (cond b (fieldsOn (n + 1) (set xs n (numberOn 0 f)) fs) (record { count = 5; numbers = xs }) .numbers) i 0 ≡ getD xs i 0
     go rest false = refl
     go rest true = rest ∙ getD-set-other xs n i (numberOn 0 f) 0 (λ e. omega arith)
+
+-- and those of the fields are theirs, in order
+numbers-after : (n : ℕ) (xs : List ℕ) (fs : List (List ℕ)) → length xs ≡ 4 → n + length fs ≤ 4 → Each IsNumber fs
+    → take (n + length fs) (fieldsOn n xs fs .numbers) ≡ take n xs ++ map (numberOn 0) fs
+numbers-after n xs [] size few h = rw (add-zero, append-nil) refl
+numbers-after n xs (f ∷ fs) size few h =
+    let more : n + suc (length fs) ≡ n + 1 + length fs = omega arith in
+    let next = set xs n (numberOn 0 f) in
+    rw (passes (decides-number f) (h .0), lt-ltb n 4 (omega arith), more)
+    (numbers-after (n + 1) next fs (length-set xs n (numberOn 0 f) ∙ size) (omega arith) (h .1)
+    ∙ rw (add-one, take-suc-set xs n (numberOn 0 f) (omega arith), append-assoc) refl)
+
+pub numbers-told : (fs : List (List ℕ)) → length fs ≤ 4 → Each IsNumber fs → take (length fs) (fieldsRead fs .numbers) ≡ map (numberOn 0) fs
+numbers-told fs few h = let e : 0 + length fs ≡ length fs = omega arith in rw e at (numbers-after 0 noNumbers fs refl (omega arith) h)
 
 -- no section has more than four
 pub few-fields : (section : ℕ) → length (layoutOf section) ≤ 4

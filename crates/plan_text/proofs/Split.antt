@@ -3,11 +3,15 @@ use Prim.Native.Nat.{ℕ, suc, _+_, _-_, _≤_, _<_}
 use native.Mathlib.Numerals.{add-one}
 use native.Mathlib.Omega.{arith}
 use mathlib.Core.Bool.{Bool, true, false, cond}
-use mathlib.Core.List.{List, [], _∷_}
+use mathlib.Core.List.{List, [], _∷_, _++_}
+use mathlib.Core.Logic.{_≢_, ⊎-elim}
 use mathlib.Core.Path.{_≡_, refl, ap, _∙_}
 use lib.Dec.{eqb}
 use lib.ListN.{length, take, drop, drop-of-length-le}
 use lib.Seq.{take-length, drop-length, drop-cons, drop-drop}
+use borrow.Author.Tests.{eq-eqb, ne-eqb}
+use Rattle.model.specs.Numbers.{Each}
+use Rattle.model.proofs.Decide.{decided, decides-eq}
 use Rattle.bytes.specs.Bytes.{slice, indexAfter, indexOf}
 use Rattle.plan_text.specs.Lines.{wider, splitBy}
 
@@ -56,3 +60,39 @@ module _ (s : ℕ) where
         let found : end ≡ from + indexOf s (drop from bs) = rw whole at e in
         let size : end - from ≡ indexOf s (drop from bs) = omega arith in
         rw (size, found, ← drop-drop (indexOf s (drop from bs)) from bs) (split-first (drop from bs))
+
+-- parts put together, with the separator between them
+abbrev pub joined : ℕ → List (List ℕ) → List ℕ
+joined s [] = []
+joined s (p ∷ []) = p
+joined s (p ∷ q ∷ ps) = p ++ s ∷ joined s (q ∷ ps)
+
+module _ (s : ℕ) where
+  joined-after : (ps : List (List ℕ)) → ps ≢ [] → joined s ([] ∷ ps) ≡ s ∷ joined s ps
+  joined-after [] some = absurd (some refl)
+  joined-after (p ∷ ps) some = refl
+
+  joined-wider : (b : ℕ) (ps : List (List ℕ)) → joined s (wider b ps) ≡ b ∷ joined s ps
+  joined-wider b [] = refl
+  joined-wider b (p ∷ []) = refl
+  joined-wider b (p ∷ q ∷ ps) = refl
+
+  -- the parts are the list again, and none of them has a separator
+  pub split-joined : (bs : List ℕ) → joined s (splitBy s bs) ≡ bs
+  split-joined [] = refl
+  split-joined (b ∷ bs) =
+      ⊎-elim
+      (λ (e : b ≡ s). rw (eq-eqb b s e) (joined-after (splitBy s bs) (split-some s bs) ∙ rw (split-joined bs, e) refl))
+      (λ (ne : ¬ (b ≡ s)). rw (ne-eqb b s ne) (joined-wider b (splitBy s bs) ∙ rw (split-joined bs) refl))
+      (decided (decides-eq b s))
+
+  clean-wider : (b : ℕ) (ps : List (List ℕ)) → b ≢ s → Each (Each (λ (c : ℕ). c ≢ s)) ps → Each (Each (λ (c : ℕ). c ≢ s)) (wider b ps)
+  clean-wider b [] ne h = ((ne, tt), tt)
+  clean-wider b (p ∷ ps) ne h = ((ne, h .0), h .1)
+
+  pub split-clean : (bs : List ℕ) → Each (Each (λ (c : ℕ). c ≢ s)) (splitBy s bs)
+  split-clean [] = (tt, tt)
+  split-clean (b ∷ bs) =
+      ⊎-elim (λ (e : b ≡ s). rw (eq-eqb b s e) (tt, split-clean bs))
+      (λ (ne : ¬ (b ≡ s)). rw (ne-eqb b s ne) (clean-wider b (splitBy s bs) ne (split-clean bs)))
+      (decided (decides-eq b s))

@@ -21,7 +21,8 @@ abbrev pub wider : ℕ → List (List ℕ) → List (List ℕ)
 wider b [] = (b ∷ []) ∷ []
 wider b (p ∷ ps) = (b ∷ p) ∷ ps
 
--- the parts between the bytes that are s, one more than there are such bytes
+-- the parts between the bytes that are s, one more than there are such bytes; put together with s between them they are the
+-- list again, and none has an s (`split-joined`, `split-clean`)
 abbrev pub splitBy : ℕ → List ℕ → List (List ℕ)
 splitBy s [] = [] ∷ []
 splitBy s (b ∷ bs) = cond (eqb b s) ([] ∷ splitBy s bs) (wider b (splitBy s bs))
@@ -45,7 +46,7 @@ linesIn (p ∷ q ∷ ps) = record { bytes = p; ended = true } ∷ linesIn (q ∷
 abbrev pub linesOf : List ℕ → List Line
 linesOf text = linesIn (splitBy lineEnd text)
 
--- a line that is skipped: it is empty or begins with `#`
+-- a skipped line (document 01's term): it is empty or begins with `#`
 abbrev pub isSkipped : List ℕ → Bool
 isSkipped [] = true
 isSkipped (b ∷ bs) = eqb b hash
@@ -62,7 +63,7 @@ isPlain b = eqb b tab || (leb 32 b && leb b 126)
 abbrev pub parts : List ℕ → List (List ℕ)
 parts bytes = splitBy tab bytes
 
--- the letter of a record is the part before the first tab, and its fields are the parts after it
+-- the letter of a record (document 01's terms) is the part before the first tab, and its fields are the parts after it
 abbrev pub letterIn : List (List ℕ) → List ℕ
 letterIn [] = []
 letterIn (p ∷ ps) = p

@@ -15,14 +15,36 @@ use Rattle.plan_text.specs.declared.Record.{Record}
 abbrev pub line : ℕ → ℕ → ℕ → ℕ → ℕ → Record
 line section a b c d = record { section = section; first = a; second = b; third = c; fourth = d }
 
+-- the records as document 01 writes them
+abbrev pub C : ℕ → ℕ → ℕ → Record
+C resources types rows = line 1 resources types rows 0
+
+abbrev pub R : ℕ → ℕ → Record
+R resource capacity = line 2 resource capacity 0 0
+
+abbrev pub T : ℕ → ℕ → Record
+T kind stages = line 3 kind stages 0 0
+
+abbrev pub S : ℕ → ℕ → ℕ → ℕ → Record
+S kind stage resource units = line 4 kind stage resource units
+
+abbrev pub B : ℕ → ℕ → Record
+B row bound = line 5 row bound 0 0
+
+abbrev pub A : ℕ → ℕ → ℕ → ℕ → Record
+A row kind stage weight = line 6 row kind stage weight
+
+abbrev pub K : ℕ → ℕ → Record
+K resource rank = line 7 resource rank 0 0
+
 pub record Says (rs : List Record) (p : Plan) : Type 0 where
-  pub counts : Has rs (line 1 (p .resources) (p .types) (p .rows) 0)
-  pub capacities : (r v : ℕ) → 1 ≤ v → (capacityOf p r ≡ v) ↔ Has rs (line 2 r v 0 0)
-  pub lengths : (t v : ℕ) → 1 ≤ v → (lengthOf p t ≡ v) ↔ Has rs (line 3 t v 0 0)
-  pub demands : (t k r v : ℕ) → 1 ≤ v → (demandOf p r t k ≡ v) ↔ Has rs (line 4 t k r v)
-  pub bounds : (w v : ℕ) → InRange w (p .rows) → (boundOf p w ≡ v) ↔ Has rs (line 5 w v 0 0)
-  pub weights : (w t k v : ℕ) → 1 ≤ v → (weightOf p w t k ≡ v) ↔ Has rs (line 6 w t k v)
-  pub ranks : (r v : ℕ) → 1 ≤ v → (rankOf p r ≡ v) ↔ Has rs (line 7 r v 0 0)
+  pub counts : Has rs (C (p .resources) (p .types) (p .rows))
+  pub capacities : (r v : ℕ) → 1 ≤ v → (capacityOf p r ≡ v) ↔ Has rs (R r v)
+  pub lengths : (t v : ℕ) → 1 ≤ v → (lengthOf p t ≡ v) ↔ Has rs (T t v)
+  pub demands : (t k r v : ℕ) → 1 ≤ v → (demandOf p r t k ≡ v) ↔ Has rs (S t k r v)
+  pub bounds : (w v : ℕ) → InRange w (p .rows) → (boundOf p w ≡ v) ↔ Has rs (B w v)
+  pub weights : (w t k v : ℕ) → 1 ≤ v → (weightOf p w t k ≡ v) ↔ Has rs (A w t k v)
+  pub ranks : (r v : ℕ) → 1 ≤ v → (rankOf p r ≡ v) ↔ Has rs (K r v)
 
 -- the same records, in whatever order and however often
 abbrev pub SameRecords : List Record → List Record → Type 0

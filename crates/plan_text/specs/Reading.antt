@@ -39,7 +39,7 @@ formQuestions last l =
     ∷ ask (isSkipped (l .bytes) || eqb (fieldsRead (fieldsIn (parts (l .bytes))) .count) (length (layoutOf section))) BadFields
     ∷ []
 
--- 6, and 5 of all types together
+-- 5 of all types together
 abbrev pub withinTotal : List ℕ → Record → Bool
 withinTotal lengths r = cond (eqb (r .section) 3) (leb (sumTo maxTypes (at lengths) + r .second) maxAllStages) true
 

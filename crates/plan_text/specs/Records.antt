@@ -13,7 +13,7 @@ use Rattle.plan_text.specs.Lines.{isSkipped, parts, letterIn, fieldsIn}
 use Rattle.plan_text.specs.declared.Record.{Record}
 use Rattle.plan_text.specs.declared.Fields.{Fields}
 
--- the letters in the order of their sections: C, R, T, S, B, A, K
+-- the letters in the order of their sections (document 01's term): C, R, T, S, B, A, K
 abbrev pub letters : List ℕ
 letters = 67 ∷ 82 ∷ 84 ∷ 83 ∷ 66 ∷ 65 ∷ 75 ∷ []
 
@@ -114,7 +114,8 @@ abbrev pub numberOn : ℕ → List ℕ → ℕ
 numberOn x [] = x
 numberOn x (b ∷ bs) = numberOn (10 * x + (b - 48)) bs
 
--- fields read one after the other, after the n whose numbers are at hand; 5 for what no record has, another field or a fifth
+-- fields read one after the other, after the n whose numbers are at hand; 5 for what no record has, a field that is no number
+-- or a fifth. Where all are numbers, and at most four, these are theirs, in order (`numbers-told`)
 abbrev pub fieldsOn : ℕ → List ℕ → List (List ℕ) → Fields
 fieldsOn n xs [] = record { count = n; numbers = xs }
 fieldsOn n xs (f ∷ fs) =
@@ -153,7 +154,7 @@ fitsFields k before (f ∷ fs) (x ∷ xs) = fitsField k before f x && fitsFields
 unfoldable pub inRanges : Known → Record → Bool
 inRanges k r = fitsFields k 0 (layoutOf (r .section)) (numbersOf r)
 
--- the key of a record: its section and the first of its numbers, of C none, of S and A three, of the others one
+-- the key of a record (document 01's term): its section and the first of its numbers, of C none, of S and A three, of the others one
 abbrev pub keyNumbers : List ℕ
 keyNumbers = 0 ∷ 1 ∷ 1 ∷ 3 ∷ 1 ∷ 3 ∷ 1 ∷ []
 

@@ -13,7 +13,7 @@ use Rattle.model.specs.Plan.{emptyPlan, allStages, IsStage}
 use Rattle.model.specs.declared.Plan.{Plan}
 use Rattle.plan_text.specs.Lines.{Line, linesOf, isSkipped, Plain, parts, letterIn, fieldsIn}
 use Rattle.plan_text.specs.Records.{sections, sectionOf, layoutOf, knownOf, IsNumber, recordIn, InRanges, keyOf, Some}
-use Rattle.plan_text.specs.Written.{draftOf, planOf, written}
+use Rattle.plan_text.specs.Written.{planOf}
 use Rattle.plan_text.specs.declared.Record.{Record}
 use Rattle.plan_text.specs.declared.TextAnswer.{TextAnswer}
 use Rattle.plan_text.specs.declared.TextAnswer.the-variants.{Accepted, TooLong, BadLine, BadLetter, BadFields, OutOfRange, Repeated, Incomplete}
@@ -61,6 +61,12 @@ recordsOf (l ∷ ls) = cond (isSkipped (l .bytes)) (recordsOf ls) (recordIn (l .
 abbrev pub WellFormed : Line → Type 0
 WellFormed l = (l .ended ≡ true) × Each Plain (l .bytes)
 
+-- the section of the last record, 0 where there is none
+abbrev pub lastSection : List Record → ℕ
+lastSection [] = 0
+lastSection (r ∷ []) = r .section
+lastSection (r ∷ q ∷ rs) = lastSection (q ∷ rs)
+
 -- 3: the letter is in the list, C if this is the first record, and not of an earlier section than the record before
 abbrev pub Follows : ℕ → ℕ → Type 0
 Follows last section = InRange section sections × (last ≤ section) × ((1 ≤ last) ⊎ (section ≡ 1))
@@ -77,7 +83,7 @@ FirstWithKey rs r = Each (λ (q : Record). keyOf q ≢ keyOf r) rs
 
 -- 5 of all types together: at most 128 stages
 abbrev pub WithinTotal : List Record → Record → Type 0
-WithinTotal rs r = allStages (written (draftOf rs) r .plan) ≤ maxAllStages
+WithinTotal rs r = allStages (planOf (rs ++ r ∷ [])) ≤ maxAllStages
 
 -- the questions of line n, after the records rs
 abbrev pub lineConditions : List ℕ → List Record → ℕ → Line → List (Condition Reading)
@@ -85,7 +91,7 @@ lineConditions text rs n l =
     let r = recordIn (l .bytes) in
     let refuses : ℕ → Reading → Type 0 = λ number. Refuses text number n (l .bytes) in
     asks (WellFormed l) (refuses 2)
-    ∷ asks (IsRecord l → Follows (draftOf rs .section) (sectionOf (letterIn (parts (l .bytes))))) (refuses 3)
+    ∷ asks (IsRecord l → Follows (lastSection rs) (sectionOf (letterIn (parts (l .bytes))))) (refuses 3)
     ∷ asks (IsRecord l → WellFielded l) (refuses 4)
     ∷ asks (IsRecord l → InRanges (knownOf (planOf rs)) r) (refuses 5)
     ∷ asks (IsRecord l → FirstWithKey rs r) (refuses 6)

@@ -43,8 +43,8 @@ lines p t (e ∷ es) =
     a .0 ∷ a .1 ∷ next .count ∷ lines p next es
 
 -- the numbers that the definitions give: of a text its answer and line, or all numbers of its plan; of a check its answer and
--- two places; of jobs against the rows each row's sum and the row broken; of a drain its answer and moves, of an event its answer and place, both with the stages at which the
--- jobs then stand; of events from the empty table the lines above
+-- two places; of jobs against the rows each row's sum and the row broken; of a drain its answer and moves, of an event its
+-- answer and place, both with the stages at which the jobs then stand; of events from the empty table the lines above
 unfoldable pub result : Run → List ℕ
 unfolding sums stagesOf lines
 result (read text) = let r = reading text in textNumber (r .answer) ∷ r .line ∷ []
