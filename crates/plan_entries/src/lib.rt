@@ -6,7 +6,7 @@ ghost use lib.Dec.{leb};
 ghost use Rattle.model.specs.Numbers.{at, allTo};
 ghost use Rattle.plan_text.specs.Written.{indexIn, heldBy};
 ghost use Rattle.plan_text.specs.Reading.{withinTotal};
-ghost use Rattle.plan_text.specs.ReaderParts.{recordAnswer, entryAnswer, knownWith};
+ghost use Rattle.plan_text.specs.ReaderParts.{recordAnswer, knownWith};
 use entries::entry_of;
 use model::Stage;
 use plan_text::Head;
@@ -66,32 +66,7 @@ fn within_total(rec: Record, lengths: &[u8; 16]) -> bool
     total + rec.second as usize <= 128
 }
 
-// Question 6 of a record, and then 5 of all types together.
-fn entry_answer<'a>(
-    rec: Record,
-    section: u32,
-    s: Stage,
-    capacity: &'a [u8; 32],
-    lengths: &'a [u8; 16],
-    bounded: &'a [u8; 32],
-    rank: &'a [u8; 32],
-) -> TextAnswer
-    ensures { λ r. ⌜ r ≡ entryAnswer (heldBy section (now (capacity .entry)) (now (lengths .entry)) (now (bounded .entry)) (now (rank .entry)) s rec)
-        (now (lengths .entry)) rec ⌝ }
-{
-    let before = held(rec, section, s, capacity, lengths, bounded, rank);
-    let first = before == 0;
-    let within = within_total(rec, lengths);
-    if !first {
-        return TextAnswer::Repeated;
-    }
-    if !within {
-        return TextAnswer::OutOfRange;
-    }
-    TextAnswer::Accepted
-}
-
-// Questions 5 and 6 of a record, whose stage is s.
+// Questions 5 and 6 of a record, whose stage is s, and then 5 of all types together.
 pub fn record_answer<'a>(
     rec: Record,
     head: Head,
@@ -106,9 +81,21 @@ pub fn record_answer<'a>(
         (now (lengths .entry)) rec ⌝ }
 {
     let counts = head.counts;
+    let before = held(rec, head.section, s, capacity, lengths, bounded, rank);
     let ranged = in_ranges(rec, counts, capacity, lengths);
-    let rest = entry_answer(rec, head.section, s, capacity, lengths, bounded, rank);
-    if ranged { rest } else { TextAnswer::OutOfRange }
+    let within = within_total(rec, lengths);
+    let first = before == 0;
+    if !ranged {
+        return TextAnswer::OutOfRange;
+    }
+    if !first {
+        return TextAnswer::Repeated;
+    }
+    if within {
+        TextAnswer::Accepted
+    } else {
+        TextAnswer::OutOfRange
+    }
 }
 
 // Has every row its bound?

@@ -41,10 +41,6 @@ abbrev pub recordAnswer : Known → ℕ → List ℕ → Record → TextAnswer
 recordAnswer k held lengths r =
     answerOf Accepted (ask (inRanges k r) OutOfRange ∷ ask (eqb held 0) Repeated ∷ ask (withinTotal lengths r) OutOfRange ∷ [])
 
--- the same without the ranges
-abbrev pub entryAnswer : ℕ → List ℕ → Record → TextAnswer
-entryAnswer held lengths r = answerOf Accepted (ask (eqb held 0) Repeated ∷ ask (withinTotal lengths r) OutOfRange ∷ [])
-
 -- a record whose values are cut to what a plan's entries can hold; in range they are as they were
 abbrev pub narrowed : Record → Record
 narrowed r =
