@@ -24,7 +24,7 @@ found-within s (x ∷ xs) = step (eqb x s) (found-within s xs)
     step false h = omega arith
 
 -- a part that others follow is a line with its LF
-line-then : (p : List ℕ) (ps : List (List ℕ)) → ps ≢ [] → linesIn (p ∷ ps) ≡ record { bytes = p; ended = true } ∷ linesIn ps
+pub line-then : (p : List ℕ) (ps : List (List ℕ)) → ps ≢ [] → linesIn (p ∷ ps) ≡ record { bytes = p; ended = true } ∷ linesIn ps
 line-then p [] some = absurd (some refl)
 line-then p (q ∷ qs) some = refl
 

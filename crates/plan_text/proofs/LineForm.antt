@@ -97,21 +97,25 @@ few-fields (suc (suc (suc (suc (suc (suc zero)))))) = omega arith
 few-fields (suc (suc (suc (suc (suc (suc (suc zero))))))) = omega arith
 few-fields (suc (suc (suc (suc (suc (suc (suc (suc n)))))))) = omega arith
 
+-- so many fields and no others, each a number
+module _ (fs : List (List ℕ)) (m : ℕ) (few : m ≤ 4) where
+  pub decides-numbers : Decides ((length fs ≡ m) × Each IsNumber fs) (eqb (fieldsRead fs .count) m)
+  decides-numbers = go (decides-each decides-number fs and decides-le (length fs) 4)
+    where
+      go : {b : Bool} → Decides (Each IsNumber fs × (length fs ≤ 4)) b → Decides ((length fs ≡ m) × Each IsNumber fs) (eqb (fieldsRead fs .count) m)
+      go (holding h) =
+          let counted = fields-counted 0 noNumbers fs (h .0) (omega (arith, h .1)) ∙ zero-add (length fs) in
+          rw counted (decides-iff (λ e. (e, h .0)) (λ k. k .0) (decides-eq (length fs) m))
+      go (failing h) =
+          let counted = fields-refused 0 noNumbers fs (omega arith) (λ k. h (k .0, omega (arith, k .1))) in
+          rw (counted, ne-eqb 5 m (λ e. omega (arith, e))) (failing (λ k. h (k .1, omega (arith, k .0))))
+
 module _ (fs : List (List ℕ)) (section : ℕ) where
   abbrev Fielded : Type 0
   Fielded = (length fs ≡ length (layoutOf section)) × Each IsNumber fs
 
   pub decides-fielded : Decides Fielded (eqb (fieldsRead fs .count) (length (layoutOf section)))
-  decides-fielded = go (decides-each decides-number fs and decides-le (length fs) 4)
-    where
-      go : {b : Bool} → Decides (Each IsNumber fs × (length fs ≤ 4)) b → Decides Fielded (eqb (fieldsRead fs .count) (length (layoutOf section)))
-      go (holding h) =
-          let counted = fields-counted 0 noNumbers fs (h .0) (omega (arith, h .1)) ∙ zero-add (length fs) in
-          rw counted (decides-iff (λ e. (e, h .0)) (λ k. k .0) (decides-eq (length fs) (length (layoutOf section))))
-      go (failing h) =
-          let counted = fields-refused 0 noNumbers fs (omega arith) (λ k. h (k .0, omega (arith, k .1))) in
-          rw (counted, ne-eqb 5 (length (layoutOf section)) (λ e. omega (arith, e, few-fields section)))
-          (failing (λ k. h (k .1, omega (arith, k .0, few-fields section))))
+  decides-fielded = decides-numbers fs (length (layoutOf section)) (few-fields section)
 
   -- zeros from a number on
   zeros-from : (m : ℕ) (xs : List ℕ) → m ≤ 4 → ((i : ℕ) → m ≤ i → getD xs i 0 ≡ 0)

@@ -96,3 +96,12 @@ module _ (s : ℕ) where
       ⊎-elim (λ (e : b ≡ s). rw (eq-eqb b s e) (tt, split-clean bs))
       (λ (ne : ¬ (b ≡ s)). rw (ne-eqb b s ne) (clean-wider b (splitBy s bs) ne (split-clean bs)))
       (decided (decides-eq b s))
+
+  -- a part without a separator, alone and with more after it
+  pub split-alone : (p : List ℕ) → Each (λ (c : ℕ). c ≢ s) p → splitBy s p ≡ p ∷ []
+  split-alone [] h = refl
+  split-alone (b ∷ bs) h = rw (ne-eqb b s (h .0), split-alone bs (h .1)) refl
+
+  pub split-then : (p bs : List ℕ) → Each (λ (c : ℕ). c ≢ s) p → splitBy s (p ++ s ∷ bs) ≡ p ∷ splitBy s bs
+  split-then [] bs h = rw (eq-eqb s s refl) refl
+  split-then (c ∷ p) bs h = rw (ne-eqb c s (h .0), split-then p bs (h .1)) refl

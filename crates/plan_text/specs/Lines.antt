@@ -68,6 +68,12 @@ abbrev pub letterIn : List (List ℕ) → List ℕ
 letterIn [] = []
 letterIn (p ∷ ps) = p
 
+-- its byte; 0 where it is not one byte
+abbrev pub letterByte : List ℕ → ℕ
+letterByte [] = 0
+letterByte (b ∷ []) = b
+letterByte (b ∷ c ∷ bs) = 0
+
 abbrev pub fieldsIn : List (List ℕ) → List (List ℕ)
 fieldsIn [] = []
 fieldsIn (p ∷ ps) = ps

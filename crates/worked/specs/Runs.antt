@@ -14,6 +14,8 @@ use Rattle.events.specs.declared.Event.{Event}
 use Rattle.events.specs.declared.Event.the-variants.{Load, Advance, Unload}
 use Rattle.plan_text.specs.TextQuestions.{textNumber}
 use Rattle.plan_text.specs.Reading.{reading}
+use Rattle.moves_text.specs.Quoted.{quoted}
+use Rattle.moves_text.specs.Output.{output}
 use Rattle.worked.specs.Texts.{capacityText, stagesText, moreStagesText, crossingText, planNumbers}
 use Rattle.worked.specs.Plans.{crossingWith, crossingPlan, equation40, withoutRows, oneStation, jobsPerStage}
 
@@ -26,6 +28,7 @@ pub data Run : Type 0 where
   drained : Plan → List Job → ℕ → Run
   answered : Plan → List Job → Event → Run
   followed : Plan → List Event → Run
+  printed : List ℕ → Run
 
 sums : Plan → List Job → ℕ → List ℕ
 sums p js zero = []
@@ -44,7 +47,8 @@ lines p t (e ∷ es) =
 
 -- the numbers that the definitions give: of a text its answer and line, or all numbers of its plan; of a check its answer and
 -- two places; of jobs against the rows each row's sum and the row broken; of a drain its answer and moves, of an event its
--- answer and place, both with the stages at which the jobs then stand; of events from the empty table the lines above
+-- answer and place, both with the stages at which the jobs then stand; of events from the empty table the lines above; of an input
+-- of `cellmoves` the bytes that it prints
 unfoldable pub result : Run → List ℕ
 unfolding sums stagesOf lines
 result (read text) = let r = reading text in textNumber (r .answer) ∷ r .line ∷ []
@@ -58,6 +62,7 @@ result (answered p js e) =
     let a = answerNumbers (answer p (listOf js) e) in
     a .0 ∷ a .1 ∷ stagesOf (jobsOf (listAfter p (listOf js) e))
 result (followed p es) = lines p emptyList es
+result (printed input) = output input
 
 pub record Row : Type 0 where
   pub asked : Run
@@ -70,10 +75,18 @@ row r xs = record { asked = r; expected = xs }
 wholeRun : List Event
 wholeRun = Load 7 1 ∷ Load 8 2 ∷ Advance 7 ∷ Load 8 2 ∷ Advance 7 ∷ Load 8 2 ∷ Unload 7 ∷ Load 8 2 ∷ []
 
+-- the same as bytes: the input of the whole run, and what is printed
+wholeInput : List ℕ
+wholeInput = crossingText ++ quoted "E\nL\t7\t1\nL\t8\t2\nA\t7\nL\t8\t2\nA\t7\nL\t8\t2\nU\t7\nL\t8\t2\n"
+
+wholeOutput : List ℕ
+wholeOutput =
+    quoted "P\t0\t0\nQ\t0\t0\t0\n1\t0\t0\t1\n2\t19\t2\t1\n3\t0\t0\t1\n4\t19\t2\t1\n5\t0\t0\t1\n6\t18\t3\t1\n7\t0\t0\t0\n8\t0\t0\t1\n"
+
 -- in document 01's order: the texts, the upstream check, the rows of Equation 40, the drains, the advance within one station; then the
 -- further runs
 unfoldable pub rows : List Row
-unfolding row wholeRun
+unfolding row wholeRun wholeInput wholeOutput
 rows =
     row (read []) (7 ∷ 1 ∷ [])
     ∷ row (read (capacityText 255)) (7 ∷ 3 ∷ [])
@@ -98,4 +111,5 @@ rows =
     ∷ row (followed oneStation (Load 65536 1 ∷ Load 65535 1 ∷ [])) (13 ∷ 0 ∷ 0 ∷ 0 ∷ 0 ∷ 1 ∷ [])
     ∷ row (followed crossingPlan wholeRun)
     (0 ∷ 0 ∷ 1 ∷ 19 ∷ 2 ∷ 1 ∷ 0 ∷ 0 ∷ 1 ∷ 19 ∷ 2 ∷ 1 ∷ 0 ∷ 0 ∷ 1 ∷ 18 ∷ 3 ∷ 1 ∷ 0 ∷ 0 ∷ 0 ∷ 0 ∷ 0 ∷ 1 ∷ [])
+    ∷ row (printed wholeInput) wholeOutput
     ∷ []

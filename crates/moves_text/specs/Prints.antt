@@ -1,0 +1,47 @@
+-- The section "The program" of document 01 as it is worded: which line is answered what.
+use Prim.Native.Nat.{ℕ, _+_, _≤_, _<_}
+use mathlib.Core.List.{List, [], _∷_, _++_}
+use mathlib.Core.Option.{Option}
+use mathlib.Core.Path.{_≡_}
+use lib.ListN.{length}
+use Rattle.model.specs.Numbers.{entry, Split}
+use Rattle.model.specs.declared.Plan.{Plan}
+use Rattle.events.specs.JobList.{emptyList}
+use Rattle.events.specs.declared.Event.{Event}
+use Rattle.events.specs.declared.JobList.{JobList}
+use Rattle.emptying.specs.Run.{listAfterAll}
+use Rattle.plan_text.specs.TextQuestions.{maxText}
+use Rattle.plan_text.specs.Reading.{reading}
+use Rattle.moves_text.specs.Quoted.{quoted}
+use Rattle.moves_text.specs.Division.{Divides}
+use Rattle.moves_text.specs.EventLines.{countedIn, eventsIn}
+use Rattle.moves_text.specs.OutputLines.{eventLine, aboutPlan, answerTo}
+
+abbrev pub joined : List (List ℕ) → List ℕ
+joined [] = []
+joined (l ∷ ls) = l ++ joined ls
+
+-- the table after counted lines: that after the events of the well-formed ones, from the empty table
+abbrev pub tableAfter : Plan → List (Option Event) → JobList
+tableAfter p ls = listAfterAll p emptyList (eventsIn ls)
+
+-- the line printed of a counted line that comes after others: its event is answered at the table after theirs
+abbrev pub lineOf : Plan → List (Option Event) → Option Event → List ℕ
+lineOf p before l =
+    let a = answerTo p (tableAfter p before) l in
+    eventLine (length before + 1) (a .0) (a .1) (tableAfter p (before ++ l ∷ []) .count)
+
+-- an input of at most 65,536 bytes: the lines about its plan, and one for each counted event line, in order
+pub record Answered (input out : List ℕ) : Type 0 where
+  pub plan : List ℕ
+  pub events : List ℕ
+  pub divided : Divides input plan events
+  pub lines : List (List ℕ)
+  pub printed : out ≡ aboutPlan (reading plan) ++ joined lines
+  pub one-each : length lines ≡ length (countedIn events)
+  pub each : (s : Split (countedIn events)) → entry lines (length (s .before) + 1) [] ≡ lineOf (reading plan .plan) (s .before) (s .item)
+
+-- what is printed of an input; of a longer one its refusal alone
+pub record Prints (input out : List ℕ) : Type 0 where
+  pub answered : length input ≤ maxText → Answered input out
+  pub too-long : maxText < length input → out ≡ quoted "P\t1\t0\n"
