@@ -1,3 +1,4 @@
--- The laws behind the code that reads fields: the number of one, and all of a line.
+-- The laws behind the code that takes a line apart: its first bytes, the number of a field, and all fields of a line.
+pub mod Letter
 pub mod Digits
 pub mod FieldByField

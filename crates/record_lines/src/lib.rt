@@ -3,7 +3,7 @@ ghost use mathlib.Core.Path.{_≡_};
 ghost use mathlib.Core.Bool.{_&&_};
 ghost use lib.ListN.{length};
 ghost use Rattle.model.specs.Numbers.{each};
-ghost use Rattle.plan_text.specs.Lines.{isPlain, isSkipped, parts, letterIn, fieldsIn};
+ghost use Rattle.plan_text.specs.Lines.{isPlain, parts, letterIn, fieldsIn};
 ghost use Rattle.plan_text.specs.Records.{letters, position, sectionOf, layoutOf, fieldsRead, noRecord, recordWith};
 ghost use Rattle.plan_text.specs.Reading.{follows};
 ghost use Rattle.plan_text.specs.ReaderParts.{formOf};
@@ -12,6 +12,8 @@ use plan_text::Form;
 use plan_text::Record;
 use plan_text::TextAnswer;
 use record_fields::fields_of;
+use record_fields::is_skipped;
+use record_fields::letter_of;
 use record_ranges::field_count;
 
 fn is_plain_byte(b: u8) -> bool
@@ -43,15 +45,6 @@ fn is_well_formed(line: &[u8], ended: bool) -> bool
     if ended { is_plain(line) } else { false }
 }
 
-fn is_skipped(line: &[u8]) -> bool
-    ensures { λ r. ⌜ r ≡ isSkipped (now (line .entry)) ⌝ }
-{
-    if line.len() < 1 {
-        return true;
-    }
-    line[0] == b'#'
-}
-
 fn section_of_letter(letter: u8) -> u32
     ensures { λ r. ⌜ r ≡ position letter 1 letters ⌝ }
 {
@@ -67,20 +60,10 @@ fn section_of_letter(letter: u8) -> u32
     }
 }
 
-// The letter is one byte where the line is, or where a tab is next; a line that begins with a tab has none, and a tab is in
-// no arm above.
 fn section_of(line: &[u8]) -> u32
     ensures { λ r. ⌜ r ≡ sectionOf (letterIn (parts (now (line .entry)))) ⌝ }
 {
-    if line.len() < 1 {
-        return 0;
-    }
-    if 1 < line.len() {
-        if line[1] != b'\t' {
-            return 0;
-        }
-    }
-    section_of_letter(line[0])
+    section_of_letter(letter_of(line))
 }
 
 // Question 3: the section of a record after one of the section `last`, 0 for none.
