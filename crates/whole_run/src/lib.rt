@@ -1,0 +1,148 @@
+// The whole run of `cellmoves`: from the bytes of an input to the bytes that are printed.
+ghost use mathlib.Core.Path.{_≡_};
+ghost use Prim.Native.Nat.{_+_, _≤_, _<_};
+ghost use lib.ListN.{length};
+ghost use Rattle.events.specs.JobList.{emptyList};
+ghost use Rattle.admission.specs.Table.{outcome};
+ghost use Rattle.moves_text.specs.OutputLines.{aboutCheck, aboutText};
+ghost use Rattle.moves_text.specs.Output.{toPrint, output};
+ghost use Rattle.moves_text.specs.Space.{filled, lengthFilled, overlaid, overlaidAt};
+use admission::Outcome;
+use admission::Table;
+use bytes::scan::find;
+use events::Event;
+use input_lines::event_of;
+use input_lines::plan_length;
+use model::Plan;
+use moves_text::EventLine;
+use numbers::answer_number;
+use numbers::answer_place;
+use numbers::check_first;
+use numbers::check_number;
+use numbers::check_second;
+use numbers::text_number;
+use output_lines::put_check_line;
+use output_lines::put_event_line;
+use output_lines::put_plan_line;
+use reader::read;
+use shown_lines::part_of;
+use upstream::upstream_check;
+
+// A space of so many bytes is enough for every output.
+pub const ENOUGH: usize = 491526;
+
+fn moved(t: Table, p: Plan, e: Event) -> Outcome
+    ensures { λ r. ⌜ r ≡ outcome p t e ⌝ }
+{
+    match e {
+        Event::Load { job, kind } => t.load(p, job, kind),
+        Event::Advance(job) => t.advance(p, job),
+        Event::Unload(job) => t.unload(p, job),
+    }
+}
+
+// The lines of the events, each answered at the table that the ones before it left; the place after them.
+fn put_replies(events: &[u8], plan: Plan, space: &mut [u8], start: usize) -> usize
+    requires { ⌜ (length (now events) ≤ 65536) × (start ≤ 65536) ⌝ }
+    ensures { λ r. ⌜ (r ≡ start + length (toPrint plan emptyList 1 (now (events .entry)))) × (now (space .exit) ≡ overlaidAt start (toPrint plan emptyList 1 (now (events .entry))) (now (space .entry))) ⌝ }
+{
+    let mut table = Table::empty();
+    let mut ordinal: u32 = 1;
+    let mut put = start;
+    let mut at = 0;
+    while at < events.len() {
+        let end = find(events, at, events.len(), b'\n');
+        let line = event_of(&events[at..end], end < events.len());
+        at = end + 1;
+        match line {
+            EventLine::Skipped => {}
+            EventLine::Malformed => {
+                let active = table.list.count as u32;
+                put += put_event_line(ordinal, 41, 0, active, space, put);
+                ordinal += 1;
+            }
+            EventLine::Given(event) => {
+                let before = table;
+                let outcome = moved(before, plan, event);
+                let answer = outcome.answer;
+                let after = outcome.table;
+                let active = after.list.count as u32;
+                put += put_event_line(
+                    ordinal,
+                    answer_number(answer),
+                    answer_place(answer),
+                    active,
+                    space,
+                    put,
+                );
+                ordinal += 1;
+                table = after;
+            }
+        }
+    }
+    put
+}
+
+fn put_check(plan: Plan, space: &mut [u8], at: usize) -> usize
+    ensures { λ r. ⌜ (r ≡ length (aboutCheck plan)) × (now (space .exit) ≡ overlaidAt at (aboutCheck plan) (now (space .entry))) ⌝ }
+{
+    let check = upstream_check(plan);
+    put_check_line(
+        check_number(check),
+        check_first(check),
+        check_second(check),
+        space,
+        at,
+    )
+}
+
+// The lines about the plan: `P`, and `Q` where it was accepted.
+fn put_about(number: u32, line: u32, plan: Plan, space: &mut [u8]) -> usize
+    requires { ⌜ (number < 10) × (line < 100000) ⌝ }
+    ensures { λ r. ⌜ (r ≡ length (aboutText number line plan)) × (now (space .exit) ≡ overlaid (aboutText number line plan) (now (space .entry))) ⌝ }
+{
+    let at = put_plan_line(number, line, space, 0);
+    if number < 1 {
+        return at + put_check(plan, space, at);
+    }
+    at
+}
+
+// As much of the output as fits, and the length of all of it.
+fn put_output(input: &[u8], space: &mut [u8]) -> usize
+    ensures { λ r. ⌜ (r ≡ length (output (now (input .entry)))) × (now (space .exit) ≡ overlaid (output (now (input .entry))) (now (space .entry))) ⌝ }
+{
+    if 65536 < input.len() {
+        return put_plan_line(1, 0, space, 0);
+    }
+    let n = plan_length(input);
+    let first = n + 2;
+    let reading = read(part_of(input, 0, n));
+    let answer = reading.answer;
+    let plan = reading.plan;
+    let at = put_about(text_number(answer), reading.line, plan, space);
+    put_replies(part_of(input, first, input.len()), plan, space, at)
+}
+
+// The length of the output; what is put is not kept.
+fn output_length(input: &[u8]) -> usize
+    ensures { λ r. ⌜ r ≡ length (output (now (input .entry))) ⌝ }
+{
+    let mut scratch = [0u8; 1];
+    put_output(input, &mut scratch)
+}
+
+// The space then begins with the output, and the answer is its length. Where the output does not fit, the space is left as it is
+// and the answer is 0; a space shorter than `ENOUGH` costs a second run, which measures.
+pub fn answer_input(input: &[u8], space: &mut [u8]) -> usize
+    ensures { λ r. ⌜ (r ≡ lengthFilled (output (now (input .entry))) (now (space .entry))) × (now (space .exit) ≡ filled (output (now (input .entry))) (now (space .entry))) ⌝ }
+{
+    if ENOUGH <= space.len() {
+        return put_output(input, space);
+    }
+    let needed = output_length(input);
+    if space.len() < needed {
+        return 0;
+    }
+    put_output(input, space)
+}
