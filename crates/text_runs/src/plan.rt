@@ -1,5 +1,7 @@
 // What is written of a plan: `empty` where the checksum of its entries is 0, or its resources, types and rows, the checksum, 1 where
 // it is sound, and the upstream check's answer with its two places.
+use crate::checksum::with_bound;
+use crate::checksum::with_byte;
 use crate::show::number;
 use crate::show::short;
 use crate::show::write;
@@ -10,19 +12,6 @@ use numbers::check_number;
 use numbers::check_second;
 use soundness::is_sound;
 use upstream::upstream_check;
-
-// The checksum with one entry more.
-fn with(h: u64, x: u64) -> u64 {
-    (h % 999999937 * 65599 + x % 65536) % 999999937
-}
-
-fn with_byte(h: u64, x: u8) -> u64 {
-    with(h, x as u64)
-}
-
-fn with_bound(h: u64, x: u16) -> u64 {
-    with(h, x as u64)
-}
 
 fn with_stage(h: u64, s: Stage) -> u64 {
     let mut h = h;

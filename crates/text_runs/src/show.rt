@@ -1,4 +1,4 @@
-// What is written of a case, each after a tab: its name, the answer's number, the line, where the line that decides begins and
+// What is written of a plan text, each after a tab: its name, the answer's number, the line, where the line that decides begins and
 // ends, the length of the part shown and its first 20 bytes, with a space for a tab and ? for a byte that is not 33 to 126, and
 // the plan (plan.rt).
 use libc::STDOUT_FILENO;

@@ -1,15 +1,16 @@
--- Nothing has to hold from turn to turn.
+-- The lent space keeps its length.
 use Prim.Native.Nat.{_-_}
+use mathlib.Core.Path.{_≡_}
 use lib.ListN.{length}
 use borrow.Author.Needs.{needs}
 use Rattle.text_runs.proofs.run.Statement.{statement}
 use Rattle.text_runs.proofs.run.Tie as tie
 
 abbrev Inv-loop : tie.InvT-loop
-Inv-loop cases space₀ kept₀ at₀ space kept at = Unit {0}
+Inv-loop cases space₀ out₀ kept₀ at₀ space out kept at = length out ≡ length out₀
 
 abbrev μ-loop : tie.MeasureT-loop
-μ-loop cases space₀ kept₀ at₀ space kept at = length cases - at
+μ-loop cases space₀ out₀ kept₀ at₀ space out kept at = length cases - at
 
 loop-holds : tie.Need-loop-holds Inv-loop μ-loop
 loop-holds c = search needs
@@ -38,6 +39,9 @@ loop-less c = search needs
 loop-again : tie.Need-loop-again Inv-loop μ-loop
 loop-again c = search needs
 
+same-length : tie.Need-same-length Inv-loop μ-loop
+same-length c = search needs
+
 returns : tie.Need-returns Inv-loop μ-loop
 returns c = search needs
 
@@ -56,4 +60,5 @@ run-spec =
     add-at
     loop-less
     loop-again
+    same-length
     returns)
