@@ -1,4 +1,5 @@
-// `cellmoves`: a plan and events on standard input, answers on standard output. What is printed is `whole_run`'s.
+// `cellmoves`: a plan and events on standard input, answers on standard output. What is printed is `whole_run`'s, and what a person
+// is told of a refused plan, on standard error, is that of `messages`.
 use libc::STDERR_FILENO;
 use libc::STDIN_FILENO;
 use libc::STDOUT_FILENO;
@@ -7,15 +8,19 @@ use shown_lines::part_of;
 use whole_run::ENOUGH;
 use whole_run::answer_input;
 
+fn answer(input: &[u8], space: &mut [u8]) {
+    let printed = answer_input(input, space);
+    if !io::write_all(STDOUT_FILENO, part_of(space, 0, printed)) {
+        io::write_all(STDERR_FILENO, b"the output could not be written\n");
+    }
+    let said = refusal_message(input, space);
+    io::write_all(STDERR_FILENO, part_of(space, 0, said));
+}
+
 fn main() {
     // one byte more than is taken, so that a longer input is noticed
     let mut input = [0u8; 65537];
     let mut space = [0u8; ENOUGH];
     let n = io::read_full(STDIN_FILENO, &mut input);
-    let printed = answer_input(&input[..n], &mut space);
-    if !io::write_all(STDOUT_FILENO, part_of(&space, 0, printed)) {
-        io::write_all(STDERR_FILENO, b"the output could not be written\n");
-    }
-    let said = refusal_message(&input[..n], &mut space);
-    io::write_all(STDERR_FILENO, part_of(&space, 0, said));
+    answer(&input[..n], &mut space);
 }

@@ -1,5 +1,6 @@
 -- Document 01's starred runs, as rows of one table: what is asked, and the numbers that the paper gives for it. With them the
--- crossing plan's text, the events of the whole run, a number used again after its unload, and both sides of the largest number.
+-- crossing plan's text, the whole run, as events and from bytes to bytes, a number used again after its unload, and both sides of
+-- the largest number.
 use Prim.Native.Nat.{ℕ, zero, suc}
 use mathlib.Core.List.{List, [], _∷_, _++_, map}
 use Rattle.model.specs.Upstream.{check, checkNumbers}
@@ -14,9 +15,8 @@ use Rattle.events.specs.declared.Event.{Event}
 use Rattle.events.specs.declared.Event.the-variants.{Load, Advance, Unload}
 use Rattle.plan_text.specs.TextQuestions.{textNumber}
 use Rattle.plan_text.specs.Reading.{reading}
-use Rattle.moves_text.specs.Quoted.{quoted}
 use Rattle.moves_text.specs.Output.{output}
-use Rattle.worked.specs.Texts.{capacityText, stagesText, moreStagesText, crossingText, planNumbers}
+use Rattle.worked.specs.Texts.{capacityText, largeCapacityText, stagesText, moreStagesText, crossingText, wholeInput, wholeOutput, planNumbers}
 use Rattle.worked.specs.Plans.{crossingWith, crossingPlan, equation40, withoutRows, oneStation, jobsPerStage}
 
 -- what is asked
@@ -75,22 +75,14 @@ row r xs = record { asked = r; expected = xs }
 wholeRun : List Event
 wholeRun = Load 7 1 ∷ Load 8 2 ∷ Advance 7 ∷ Load 8 2 ∷ Advance 7 ∷ Load 8 2 ∷ Unload 7 ∷ Load 8 2 ∷ []
 
--- the same as bytes: the input of the whole run, and what is printed
-wholeInput : List ℕ
-wholeInput = crossingText ++ quoted "E\nL\t7\t1\nL\t8\t2\nA\t7\nL\t8\t2\nA\t7\nL\t8\t2\nU\t7\nL\t8\t2\n"
-
-wholeOutput : List ℕ
-wholeOutput =
-    quoted "P\t0\t0\nQ\t0\t0\t0\n1\t0\t0\t1\n2\t19\t2\t1\n3\t0\t0\t1\n4\t19\t2\t1\n5\t0\t0\t1\n6\t18\t3\t1\n7\t0\t0\t0\n8\t0\t0\t1\n"
-
 -- in document 01's order: the texts, the upstream check, the rows of Equation 40, the drains, the advance within one station; then the
 -- further runs
 unfoldable pub rows : List Row
-unfolding row wholeRun wholeInput wholeOutput
+unfolding row wholeRun
 rows =
     row (read []) (7 ∷ 1 ∷ [])
-    ∷ row (read (capacityText 255)) (7 ∷ 3 ∷ [])
-    ∷ row (read (capacityText 256)) (5 ∷ 2 ∷ [])
+    ∷ row (read capacityText) (7 ∷ 3 ∷ [])
+    ∷ row (read largeCapacityText) (5 ∷ 2 ∷ [])
     ∷ row (read stagesText) (7 ∷ 7 ∷ [])
     ∷ row (read moreStagesText) (5 ∷ 7 ∷ [])
     ∷ row (read crossingText) (0 ∷ 0 ∷ [])

@@ -1,103 +1,45 @@
--- The plan texts of the worked runs, record by record.
-use Prim.Native.Nat.{ℕ, _+_, _/_, _%_}
-use mathlib.Core.Bool.{cond}
+-- The texts of the worked runs, as document 01 writes them, and the numbers of a plan.
+use Prim.Native.Nat.{ℕ}
 use mathlib.Core.List.{List, [], _∷_, _++_}
-use lib.Dec.{ltb}
 use Rattle.model.specs.declared.Stage.{Stage}
 use Rattle.model.specs.declared.Plan.{Plan}
+use Rattle.moves_text.specs.Quoted.{quoted}
 
--- the letters of document 01
-C : ℕ
-C = 67
+-- one resource with a capacity of 255, one type, and no T; and with 256
+unfoldable pub capacityText : List ℕ
+capacityText = quoted "C\t1\t1\t0\nR\t1\t255\n"
 
-R : ℕ
-R = 82
-
-T : ℕ
-T = 84
-
-S : ℕ
-S = 83
-
-B : ℕ
-B = 66
-
-A : ℕ
-A = 65
-
-K : ℕ
-K = 75
-
--- a number below 1,000 in digits
-decimal : ℕ → List ℕ
-decimal n =
-    let digit : ℕ → ℕ = λ d. 48 + d in
-    cond (ltb n 10) (digit n ∷ [])
-    (cond (ltb n 100) (digit (n / 10) ∷ digit (n % 10) ∷ []) (digit (n / 100) ∷ digit (n / 10 % 10) ∷ digit (n % 10) ∷ []))
-
--- numbers, each after a tab
-fields : List ℕ → List ℕ
-unfolding decimal
-fields [] = []
-fields (n ∷ ns) = 9 ∷ (decimal n ++ fields ns)
-
--- a record's line, with its LF
-line : ℕ → List ℕ → List ℕ
-unfolding decimal fields
-line letter ns = letter ∷ (fields ns ++ 10 ∷ [])
-
-two : ℕ → ℕ → ℕ → List ℕ
-unfolding decimal fields line
-two letter a b = line letter (a ∷ b ∷ [])
-
-four : ℕ → ℕ → ℕ → ℕ → ℕ → List ℕ
-unfolding decimal fields line
-four letter a b c d = line letter (a ∷ b ∷ c ∷ d ∷ [])
-
--- one resource with this capacity, one type, and no T
-unfoldable pub capacityText : ℕ → List ℕ
-unfolding decimal fields line two C R
-capacityText units = line C (1 ∷ 1 ∷ 0 ∷ []) ++ two R 1 units
+unfoldable pub largeCapacityText : List ℕ
+largeCapacityText = quoted "C\t1\t1\t0\nR\t1\t256\n"
 
 -- five types, of which four have 32 stages each, 128 in all; and with one stage for the fifth, 129
 unfoldable pub stagesText : List ℕ
-unfolding decimal fields line two C R T
-stagesText = line C (1 ∷ 5 ∷ 0 ∷ []) ++ two R 1 1 ++ two T 1 32 ++ two T 2 32 ++ two T 3 32 ++ two T 4 32
+stagesText = quoted "C\t1\t5\t0\nR\t1\t1\nT\t1\t32\nT\t2\t32\nT\t3\t32\nT\t4\t32\n"
 
 unfoldable pub moreStagesText : List ℕ
-unfolding decimal fields line two T stagesText
-moreStagesText = stagesText ++ two T 5 1
+unfolding stagesText
+moreStagesText = stagesText ++ quoted "T\t5\t1\n"
 
--- the crossing plan's text, as document 01 writes it
+-- the crossing plan's text, section by section
 unfoldable pub crossingText : List ℕ
-unfolding decimal fields line two four C R T S B A K
 crossingText =
-    line C (3 ∷ 2 ∷ 3 ∷ [])
-    ++ two R 1 1
-    ++ two R 2 1
-    ++ two R 3 1
-    ++ two T 1 3
-    ++ two T 2 3
-    ++ four S 1 1 1 1
-    ++ four S 1 2 2 1
-    ++ four S 1 3 3 1
-    ++ four S 2 1 3 1
-    ++ four S 2 2 2 1
-    ++ four S 2 3 1 1
-    ++ two B 1 1
-    ++ two B 2 1
-    ++ two B 3 1
-    ++ four A 1 1 1 1
-    ++ four A 1 2 3 1
-    ++ four A 2 1 1 1
-    ++ four A 2 1 2 1
-    ++ four A 2 2 1 1
-    ++ four A 2 2 2 1
-    ++ four A 3 1 3 1
-    ++ four A 3 2 1 1
-    ++ two K 1 1
-    ++ two K 2 2
-    ++ two K 3 1
+    quoted "C\t3\t2\t3\n"
+    ++ quoted "R\t1\t1\nR\t2\t1\nR\t3\t1\n"
+    ++ quoted "T\t1\t3\nT\t2\t3\n"
+    ++ quoted "S\t1\t1\t1\t1\nS\t1\t2\t2\t1\nS\t1\t3\t3\t1\nS\t2\t1\t3\t1\nS\t2\t2\t2\t1\nS\t2\t3\t1\t1\n"
+    ++ quoted "B\t1\t1\nB\t2\t1\nB\t3\t1\n"
+    ++ quoted "A\t1\t1\t1\t1\nA\t1\t2\t3\t1\nA\t2\t1\t1\t1\nA\t2\t1\t2\t1\nA\t2\t2\t1\t1\nA\t2\t2\t2\t1\nA\t3\t1\t3\t1\nA\t3\t2\t1\t1\n"
+    ++ quoted "K\t1\t1\nK\t2\t2\nK\t3\t1\n"
+
+-- the input of the whole run, and what is printed
+unfoldable pub wholeInput : List ℕ
+unfolding crossingText
+wholeInput = crossingText ++ quoted "E\nL\t7\t1\nL\t8\t2\nA\t7\nL\t8\t2\nA\t7\nL\t8\t2\nU\t7\nL\t8\t2\n"
+
+unfoldable pub wholeOutput : List ℕ
+wholeOutput =
+    quoted "P\t0\t0\nQ\t0\t0\t0\n"
+    ++ quoted "1\t0\t0\t1\n2\t19\t2\t1\n3\t0\t0\t1\n4\t19\t2\t1\n5\t0\t0\t1\n6\t18\t3\t1\n7\t0\t0\t0\n8\t0\t0\t1\n"
 
 -- all numbers of a plan
 stageNumbers : List Stage → List ℕ
