@@ -5,6 +5,7 @@ pub mod LineMeanings
 pub mod Replies
 pub mod Printed
 pub mod PrintedEmptied
+pub mod PrintedOnce
 pub mod AfterRefusal
 pub mod CountedFew
 pub mod Places

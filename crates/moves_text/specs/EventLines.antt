@@ -38,7 +38,8 @@ Means l Skipped = IsSkipped l
 Means l Malformed = (¬ IsSkipped l) × ((e : Event) → ¬ IsEvent l e)
 Means l (Given e) = IsEvent l e
 
--- the same, computed: an event by its letter and its fields
+-- the same, computed: an event by its letter and its fields; each line means what is computed of it and nothing else (`line-means`,
+-- `meaning-unique`)
 abbrev pub eventWith : ℕ → Fields → EventLine
 eventWith letter fs =
     let first = getD (fs .numbers) 0 0 in

@@ -1,4 +1,4 @@
--- The same, computed: one function from the bytes read to the bytes printed.
+-- The same, computed (`output-prints`): one function from the bytes read to the bytes printed.
 use Prim.Native.Nat.{ℕ, _+_, _*_}
 use mathlib.Core.Bool.{cond}
 use mathlib.Core.List.{List, [], _∷_, _++_}
@@ -44,7 +44,7 @@ output input =
     let r = reading (planPart input) in
     cond (leb (length input) maxText) (aboutPlan r ++ toPrint (r .plan) emptyList 1 (eventPart input)) (quoted "P\t1\t0\n")
 
--- a length that every output has room in. The line `P` has at most 10 bytes (one digit and five), `Q` 11 (three numbers of two
+-- a length that every output has room in (`output-fits`). The line `P` has at most 10 bytes (one digit and five), `Q` 11 (three numbers of two
 -- digits), an event's line 15 (five digits for the ordinal, two for each other number). A counted line has two bytes or is the
 -- last, and the `E` line has two: so there are at most 32,767
 abbrev pub enough : ℕ

@@ -15,7 +15,7 @@ use Rattle.plan_text.specs.Records.{Digit, numberOn}
 abbrev pub Spells : ℕ → List ℕ → Type 0
 Spells n bs = (1 ≤ length bs) × Each Digit bs × (numberOn 0 bs ≡ n) × ((length bs ≡ 1) ⊎ (getD bs 0 0 ≢ 48))
 
--- the same, computed: how many digits a number has, and its digits
+-- the same, computed (`decimal-spells`): how many digits a number has, and its digits
 abbrev pub placesIn : ℕ → ℕ → ℕ
 placesIn zero n = 1
 placesIn (suc fuel) n = cond (ltb n 10) 1 (suc (placesIn fuel (n / 10)))
