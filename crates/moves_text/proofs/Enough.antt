@@ -1,5 +1,5 @@
 -- Every output has at most `enough` bytes: its numbers are small, so its lines are short, and an input has few counted lines.
-use Prim.Native.Nat.{ℕ, _+_, _*_, _≤_, _<_}
+use Prim.Native.Nat.{ℕ, _+_, _*_, _^_, _≤_, _<_}
 use native.Mathlib.Omega.{arith}
 use mathlib.Core.Bool.{Bool, true, false, cond}
 use mathlib.Core.List.{List, [], _∷_, _++_}
@@ -56,7 +56,17 @@ two n h = decimal-short 2 n (omega arith) h
 five : (n : ℕ) → n < 100000 → length (decimal n) ≤ 5
 five n h = decimal-short 5 n (omega arith) h
 
-pub plan-line-short : (number line : ℕ) → number < 10 → line < 100000 → length (planLine number line) ≤ 10
+-- of any numbers of 32 bits
+pub plan-line-bounded : (number line : ℕ) → number < 10 ^ 10 → line < 10 ^ 10 → length (planLine number line) ≤ 24
+plan-line-bounded number line n l =
+    omega (
+      arith,
+      line-length (quoted "P") (decimal number ∷ decimal line ∷ []),
+      decimal-short 10 number (omega arith) n,
+      decimal-short 10 line (omega arith) l,
+    )
+
+plan-line-short : (number line : ℕ) → number < 10 → line < 100000 → length (planLine number line) ≤ 10
 plan-line-short number line small few =
     omega (arith, line-length (quoted "P") (decimal number ∷ decimal line ∷ []), decimal-short 1 number (omega arith) small, five line few)
 

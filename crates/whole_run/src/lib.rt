@@ -1,10 +1,9 @@
 // The whole run of `cellmoves`: from the bytes of an input to the bytes that are printed.
 ghost use mathlib.Core.Path.{_≡_};
-ghost use Prim.Native.Nat.{_+_, _≤_, _<_};
+ghost use Prim.Native.Nat.{_+_, _≤_};
 ghost use lib.ListN.{length};
 ghost use Rattle.events.specs.JobList.{emptyList};
 ghost use Rattle.admission.specs.Table.{outcome};
-ghost use Rattle.moves_text.specs.OutputLines.{aboutCheck, aboutText};
 ghost use Rattle.moves_text.specs.Output.{toPrint, output};
 ghost use Rattle.moves_text.specs.Space.{filled, lengthFilled, overlaid, overlaidAt};
 use admission::Outcome;
@@ -17,16 +16,12 @@ use model::Plan;
 use moves_text::EventLine;
 use numbers::answer_number;
 use numbers::answer_place;
-use numbers::check_first;
-use numbers::check_number;
-use numbers::check_second;
 use numbers::text_number;
-use output_lines::put_check_line;
 use output_lines::put_event_line;
 use output_lines::put_plan_line;
+use plan_lines::put_about;
 use reader::read;
 use shown_lines::part_of;
-use upstream::upstream_check;
 
 // A space of so many bytes is enough for every output.
 pub const ENOUGH: usize = 491526;
@@ -81,31 +76,6 @@ fn put_replies(events: &[u8], plan: Plan, space: &mut [u8], start: usize) -> usi
         }
     }
     put
-}
-
-fn put_check(plan: Plan, space: &mut [u8], at: usize) -> usize
-    ensures { λ r. ⌜ (r ≡ length (aboutCheck plan)) × (now (space .exit) ≡ overlaidAt at (aboutCheck plan) (now (space .entry))) ⌝ }
-{
-    let check = upstream_check(plan);
-    put_check_line(
-        check_number(check),
-        check_first(check),
-        check_second(check),
-        space,
-        at,
-    )
-}
-
-// The lines about the plan: `P`, and `Q` where it was accepted.
-fn put_about(number: u32, line: u32, plan: Plan, space: &mut [u8]) -> usize
-    requires { ⌜ (number < 10) × (line < 100000) ⌝ }
-    ensures { λ r. ⌜ (r ≡ length (aboutText number line plan)) × (now (space .exit) ≡ overlaid (aboutText number line plan) (now (space .entry))) ⌝ }
-{
-    let at = put_plan_line(number, line, space, 0);
-    if number < 1 {
-        return at + put_check(plan, space, at);
-    }
-    at
 }
 
 // As much of the output as fits, and the length of all of it.

@@ -7,15 +7,12 @@ use denote.Ref.{now}
 use lib.ListN.{length, length-drop}
 use borrow.Author.Needs.{needs}
 use Rattle.events.specs.JobList.{emptyList}
-use Rattle.plan_text.specs.TextQuestions.{textNumber}
 use Rattle.plan_text.specs.Reading.{reading}
-use Rattle.plan_text.specs.declared.Reading.{Reading}
 use Rattle.moves_text.specs.Division.{planLength, planPart, eventPart}
 use Rattle.moves_text.specs.OutputLines.{aboutPlan, aboutText}
 use Rattle.moves_text.specs.Output.{toPrint, output}
 use Rattle.moves_text.specs.Space.{overlaid}
 use Rattle.moves_text.proofs.CountedFew.{plan-within}
-use Rattle.moves_text.proofs.Places.{text-number-small, text-line-small}
 use Rattle.moves_text.proofs.Enough.{about-short}
 use Rattle.moves_text.proofs.Overlays.{whole-laid}
 use Rattle.moves_text.proofs.OutputParts.{too-long-output, plan-lent, events-lent, whole-output}
@@ -91,11 +88,7 @@ text-number-requires : tie.Need-text-number-requires
 text-number-requires c κs = search needs
 
 put-about-requires : tie.Need-put-about-requires
-put-about-requires c κs =
-    let r = c .before .before .before in (
-      omega (arith, c .before .text-number .ensures, text-number-small (r .read .result .answer)),
-      omega (arith, ap (λ (x : Reading). x .line) (read-told r), text-line-small (planPart (input r))),
-    )
+put-about-requires c κs = search needs
 
 part-of-requires-2 : tie.Need-part-of-requires-2
 part-of-requires-2 c κs = search needs

@@ -7,8 +7,8 @@ use Rattle.model.specs.Upstream.{checkNumbers}
 use Rattle.model.specs.declared.Check.{Check}
 use Rattle.moves_text.specs.OutputLines.{checkLine, aboutCheck}
 use Rattle.moves_text.specs.Space.{overlaidAt}
-use Rattle.whole_run.proofs.put_check.Statement.{statement}
-use Rattle.whole_run.proofs.put_check.Tie as tie
+use Rattle.plan_lines.proofs.put_check.Statement.{statement}
+use Rattle.plan_lines.proofs.put_check.Tie as tie
 
 upstream-check-requires : tie.Need-upstream-check-requires
 upstream-check-requires c κs = search needs

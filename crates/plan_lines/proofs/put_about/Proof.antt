@@ -9,11 +9,11 @@ use borrow.Author.Needs.{needs}
 use borrow.Author.Tests.{eq-eqb, ne-eqb}
 use Rattle.moves_text.specs.OutputLines.{planLine, aboutCheck}
 use Rattle.moves_text.specs.Space.{overlaid}
-use Rattle.moves_text.proofs.Enough.{plan-line-short, check-short}
+use Rattle.moves_text.proofs.Enough.{plan-line-bounded, check-short}
 use Rattle.moves_text.proofs.Overlays.{whole-laid}
 use Rattle.moves_text.proofs.OutputParts.{about-accepted, about-refused}
-use Rattle.whole_run.proofs.put_about.Statement.{statement}
-use Rattle.whole_run.proofs.put_about.Tie as tie
+use Rattle.plan_lines.proofs.put_about.Statement.{statement}
+use Rattle.plan_lines.proofs.put_about.Tie as tie
 
 put-plan-line-requires : tie.Need-put-plan-line-requires
 put-plan-line-requires c κs = search needs
@@ -29,7 +29,7 @@ add-result c =
     omega (
       arith,
       line .put-plan-line .ensures .0,
-      plan-line-short (a .args .number) (a .args .line) (a .pre .0) (a .pre .1),
+      plan-line-bounded (a .args .number) (a .args .line) (omega (arith, a .good)) (omega (arith, a .good)),
       checked .put-check .ensures .0,
       check-short (a .args .plan),
     )

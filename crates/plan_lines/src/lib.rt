@@ -1,0 +1,36 @@
+// The lines about a plan, put into a lent space: `P`, and `Q` where it was accepted.
+ghost use mathlib.Core.Path.{_≡_};
+ghost use lib.ListN.{length};
+ghost use Rattle.moves_text.specs.OutputLines.{aboutCheck, aboutText};
+ghost use Rattle.moves_text.specs.Space.{overlaid, overlaidAt};
+use model::Plan;
+use numbers::check_first;
+use numbers::check_number;
+use numbers::check_second;
+use output_lines::put_check_line;
+use output_lines::put_plan_line;
+use upstream::upstream_check;
+
+fn put_check(plan: Plan, space: &mut [u8], at: usize) -> usize
+    ensures { λ r. ⌜ (r ≡ length (aboutCheck plan)) × (now (space .exit) ≡ overlaidAt at (aboutCheck plan) (now (space .entry))) ⌝ }
+{
+    let check = upstream_check(plan);
+    put_check_line(
+        check_number(check),
+        check_first(check),
+        check_second(check),
+        space,
+        at,
+    )
+}
+
+// By the number and the line of the reading, 0 where the text was accepted.
+pub fn put_about(number: u32, line: u32, plan: Plan, space: &mut [u8]) -> usize
+    ensures { λ r. ⌜ (r ≡ length (aboutText number line plan)) × (now (space .exit) ≡ overlaid (aboutText number line plan) (now (space .entry))) ⌝ }
+{
+    let at = put_plan_line(number, line, space, 0);
+    if number < 1 {
+        return at + put_check(plan, space, at);
+    }
+    at
+}
