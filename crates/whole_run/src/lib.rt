@@ -62,14 +62,9 @@ fn put_replies(events: &[u8], plan: Plan, space: &mut [u8], start: usize) -> usi
                 let answer = outcome.answer;
                 let after = outcome.table;
                 let active = after.list.count as u32;
-                put += put_event_line(
-                    ordinal,
-                    answer_number(answer),
-                    answer_place(answer),
-                    active,
-                    space,
-                    put,
-                );
+                let number = answer_number(answer);
+                let place = answer_place(answer);
+                put += put_event_line(ordinal, number, place, active, space, put);
                 ordinal += 1;
                 table = after;
             }
