@@ -9,10 +9,10 @@ use libc::STDOUT_FILENO;
 use model::Plan;
 use numbers::answer_number;
 use numbers::answer_place;
-use numbers::check_first;
-use numbers::check_number;
-use numbers::check_second;
 use numbers::end_number;
+use plan_numbers::check_first;
+use plan_numbers::check_number;
+use plan_numbers::check_second;
 use soundness::is_sound;
 use upstream::upstream_check;
 

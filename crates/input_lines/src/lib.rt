@@ -4,11 +4,11 @@ ghost use Rattle.moves_text.specs.Division.{isMark, planLength};
 ghost use Rattle.moves_text.specs.EventLines.{eventWith, eventIn};
 use bytes::scan::find;
 use events::Event;
+use line_letters::is_skipped;
+use line_letters::letter_of;
 use moves_text::EventLine;
 use plan_text::Fields;
 use record_fields::fields_of;
-use record_fields::is_skipped;
-use record_fields::letter_of;
 
 // The line is exactly `E` and its LF.
 fn is_mark(line: &[u8], ended: bool) -> bool

@@ -7,9 +7,9 @@ ghost use Rattle.moves_text.specs.Message.{visible, shownAfter, messageWith, me
 ghost use Rattle.moves_text.specs.Space.{overlaid, overlaidAt};
 use input_lines::plan_length;
 use meanings::put_meaning;
-use numbers::text_number;
 use output_lines::put_number;
 use output_lines::put_text;
+use plan_numbers::text_number;
 use plan_text::TextAnswer;
 use reader::read;
 use shown_lines::part_of;

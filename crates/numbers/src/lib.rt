@@ -1,13 +1,9 @@
-// The published number and places of each answer, for whoever prints them.
+// The published number and place of each answer to an event, and the number of each end of a drain, for whoever prints them.
 ghost use mathlib.Core.Path.{_≡_};
-ghost use Rattle.model.specs.Upstream.{checkNumbers};
 ghost use Rattle.events.specs.Events.{answerNumbers};
 ghost use Rattle.events.specs.Drain.{endNumber};
-ghost use Rattle.plan_text.specs.TextQuestions.{textNumber};
 use events::Answer;
 use events::End;
-use model::Check;
-use plan_text::TextAnswer;
 
 pub fn answer_number(a: Answer) -> u32
     ensures { λ r. ⌜ r ≡ answerNumbers a .0 ⌝ }
@@ -52,65 +48,5 @@ pub fn end_number(e: End) -> u32
         End::Disagreement => 12,
         End::OutOfBudget => 31,
         End::NoMove => 32,
-    }
-}
-
-pub fn check_number(c: Check) -> u32
-    ensures { λ r. ⌜ r ≡ checkNumbers c .0 ⌝ }
-{
-    match c {
-        Check::Meets => 0,
-        Check::UnsoundPlan => 11,
-        Check::NoRank => 21,
-        Check::NotOneUnit { kind: _, stage: _ } => 22,
-        Check::RowCount => 23,
-        Check::WrongWeight(_) => 24,
-        Check::WrongBound(_) => 25,
-    }
-}
-
-// The type of a stage, or the row; 0 where the answer has no place.
-pub fn check_first(c: Check) -> u32
-    ensures { λ r. ⌜ r ≡ checkNumbers c .1 ⌝ }
-{
-    match c {
-        Check::NotOneUnit { kind, stage: _ } => kind,
-        Check::WrongWeight(row) => row,
-        Check::WrongBound(row) => row,
-        Check::Meets => 0,
-        Check::UnsoundPlan => 0,
-        Check::NoRank => 0,
-        Check::RowCount => 0,
-    }
-}
-
-// The number of a stage; 0 where the answer names none.
-pub fn check_second(c: Check) -> u32
-    ensures { λ r. ⌜ r ≡ checkNumbers c .2 ⌝ }
-{
-    match c {
-        Check::NotOneUnit { kind: _, stage } => stage,
-        Check::Meets => 0,
-        Check::UnsoundPlan => 0,
-        Check::NoRank => 0,
-        Check::RowCount => 0,
-        Check::WrongWeight(_) => 0,
-        Check::WrongBound(_) => 0,
-    }
-}
-
-// Of a plan text.
-pub fn text_number(a: TextAnswer) -> u32
-    ensures { λ r. ⌜ r ≡ textNumber a ⌝ }
-{
-    match a {
-        TextAnswer::Accepted => 0,
-        TextAnswer::TooLong => 1,
-        TextAnswer::BadLine => 2,
-        TextAnswer::BadLetter => 3,
-        TextAnswer::BadFields => 4,
-        TextAnswer::OutOfRange => 5,
-        TextAnswer::Repeated => 6,
-        TextAnswer::Incomplete => 7,
     }
 }

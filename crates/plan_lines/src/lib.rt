@@ -4,11 +4,11 @@ ghost use lib.ListN.{length};
 ghost use Rattle.moves_text.specs.OutputLines.{aboutCheck, aboutText};
 ghost use Rattle.moves_text.specs.Space.{overlaid, overlaidAt};
 use model::Plan;
-use numbers::check_first;
-use numbers::check_number;
-use numbers::check_second;
 use output_lines::put_check_line;
 use output_lines::put_plan_line;
+use plan_numbers::check_first;
+use plan_numbers::check_number;
+use plan_numbers::check_second;
 use upstream::upstream_check;
 
 fn put_check(plan: Plan, space: &mut [u8], at: usize) -> usize

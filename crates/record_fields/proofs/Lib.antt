@@ -1,4 +1,3 @@
--- The laws behind the code that takes a line apart: its first bytes, the number of a field, and all fields of a line.
-pub mod Letter
+-- The laws behind the code that reads a line's fields: the number of a field, and all fields of a line.
 pub mod Digits
 pub mod FieldByField

@@ -7,13 +7,13 @@ ghost use Rattle.plan_text.specs.Lines.{isPlain, parts, letterIn, fieldsIn};
 ghost use Rattle.plan_text.specs.Records.{letters, position, sectionOf, layoutOf, fieldsRead, noRecord, recordWith};
 ghost use Rattle.plan_text.specs.Reading.{follows};
 ghost use Rattle.plan_text.specs.ReaderParts.{formOf};
+use line_letters::is_skipped;
+use line_letters::letter_of;
 use plan_text::Fields;
 use plan_text::Form;
 use plan_text::Record;
 use plan_text::TextAnswer;
 use record_fields::fields_of;
-use record_fields::is_skipped;
-use record_fields::letter_of;
 use record_ranges::field_count;
 
 fn is_plain_byte(b: u8) -> bool

@@ -7,9 +7,9 @@ use crate::show::short;
 use crate::show::write;
 use model::Plan;
 use model::Stage;
-use numbers::check_first;
-use numbers::check_number;
-use numbers::check_second;
+use plan_numbers::check_first;
+use plan_numbers::check_number;
+use plan_numbers::check_second;
 use soundness::is_sound;
 use upstream::upstream_check;
 

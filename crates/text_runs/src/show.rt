@@ -2,7 +2,7 @@
 // ends, the length of the part shown and its first 20 bytes, with a space for a tab and ? for a byte that is not 33 to 126, and
 // the plan (plan.rt).
 use libc::STDOUT_FILENO;
-use numbers::text_number;
+use plan_numbers::text_number;
 use reader::read;
 use shown_lines::shown_line;
 

@@ -16,10 +16,10 @@ use model::Plan;
 use moves_text::EventLine;
 use numbers::answer_number;
 use numbers::answer_place;
-use numbers::text_number;
 use output_lines::put_event_line;
 use output_lines::put_plan_line;
 use plan_lines::put_about;
+use plan_numbers::text_number;
 use reader::read;
 use shown_lines::part_of;
 

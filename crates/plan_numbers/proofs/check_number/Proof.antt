@@ -2,8 +2,8 @@
 use mathlib.Core.Path.{_≡_, sym, ap}
 use Rattle.model.specs.Upstream.{checkNumbers}
 use Rattle.model.specs.declared.Check.{Check}
-use Rattle.numbers.proofs.check_number.Statement.{statement}
-use Rattle.numbers.proofs.check_number.Tie as tie
+use Rattle.plan_numbers.proofs.check_number.Statement.{statement}
+use Rattle.plan_numbers.proofs.check_number.Tie as tie
 
 told : {x y : Check} → x ≡ y → checkNumbers y .0 ≡ checkNumbers x .0
 told e = ap (λ (x : Check). checkNumbers x .0) (sym e)

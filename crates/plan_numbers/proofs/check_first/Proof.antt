@@ -2,8 +2,8 @@
 use mathlib.Core.Path.{_≡_, sym, ap}
 use Rattle.model.specs.Upstream.{checkNumbers}
 use Rattle.model.specs.declared.Check.{Check}
-use Rattle.numbers.proofs.check_first.Statement.{statement}
-use Rattle.numbers.proofs.check_first.Tie as tie
+use Rattle.plan_numbers.proofs.check_first.Statement.{statement}
+use Rattle.plan_numbers.proofs.check_first.Tie as tie
 
 told : {x y : Check} → x ≡ y → checkNumbers y .1 ≡ checkNumbers x .1
 told e = ap (λ (x : Check). checkNumbers x .1) (sym e)

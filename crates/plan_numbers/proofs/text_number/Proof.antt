@@ -2,8 +2,8 @@
 use mathlib.Core.Path.{_≡_, sym, ap}
 use Rattle.plan_text.specs.TextQuestions.{textNumber}
 use Rattle.plan_text.specs.declared.TextAnswer.{TextAnswer}
-use Rattle.numbers.proofs.text_number.Statement.{statement}
-use Rattle.numbers.proofs.text_number.Tie as tie
+use Rattle.plan_numbers.proofs.text_number.Statement.{statement}
+use Rattle.plan_numbers.proofs.text_number.Tie as tie
 
 told : {x y : TextAnswer} → x ≡ y → textNumber y ≡ textNumber x
 told e = ap textNumber (sym e)
