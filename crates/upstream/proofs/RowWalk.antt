@@ -16,7 +16,8 @@ use Rattle.model.proofs.Decide.{Decides, holding, failing, passes, decided, dec
 use Rattle.model.proofs.Flat.{flatIndex, index-of-stage, one-at-index}
 use Rattle.model.proofs.Soundness.{decides-stages}
 use Rattle.model.proofs.Upstream.{decides-ranked-up-to, decides-upstream}
-use Rattle.upstream.specs.Parts.{Stands, dueBy}
+use Rattle.upstream_rows.specs.Due.{dueBy}
+use Rattle.upstream.specs.Parts.{Stands}
 use Rattle.upstream.specs.declared.position.Position.{Position}
 
 -- two tests that decide the same are the same

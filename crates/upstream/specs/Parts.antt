@@ -1,13 +1,13 @@
--- What the parts of the check compute, each under one name: where an index belongs, the first entry that does not demand one
--- unit, and the weight that is due to a stage.
+-- What the parts of the check compute, each under one name: where an index belongs, and the first entry that does not demand
+-- one unit.
 use Prim.Native.Nat.{ℕ, suc, _+_, _≤_, _<_}
-use mathlib.Core.Bool.{Bool, true, false, cond, _&&_}
+use mathlib.Core.Bool.{Bool, true, false}
 use mathlib.Core.List.{List}
 use mathlib.Core.Path.{_≡_}
-use lib.Dec.{leb, eqb}
+use lib.Dec.{eqb}
 use lib.ListN.{getD}
 use Rattle.model.specs.Limits.{maxAllStages}
-use Rattle.model.specs.Numbers.{entry, at, sumTo, allTo, someTo}
+use Rattle.model.specs.Numbers.{entry, at, sumTo, allTo}
 use Rattle.model.specs.Plan.{noStage}
 use Rattle.model.specs.declared.Plan.{Plan}
 use Rattle.upstream.specs.declared.position.Position.{Position}
@@ -27,11 +27,3 @@ pub record FirstOther (p : Plan) (index : ℕ) : Type 0 where
   pub before : allTo index (unitEntry p) ≡ true
   pub within : index ≤ maxAllStages
   pub here : index < maxAllStages → unitEntry p (suc index) ≡ false
-
--- a stage with these demands demands one of n resources whose rank is at most that of the target
-abbrev pub rankedIn : ℕ → List ℕ → List ℕ → ℕ → Bool
-rankedIn n demand rank target = someTo n (λ (r : ℕ). leb 1 (at demand r) && leb (at rank r) (at rank target))
-
--- the weight due to a stage with these demands in the target's row, by what is due to the stage after it
-abbrev pub dueBy : ℕ → List ℕ → List ℕ → ℕ → ℕ → ℕ
-dueBy n demand rank target later = cond (leb 1 (at demand target)) 1 (cond (rankedIn n demand rank target) later 0)

@@ -5,45 +5,10 @@ ghost use Rattle.model.specs.Numbers.{at, inRange, lowest};
 ghost use Rattle.model.specs.Plan.{allStages};
 ghost use Rattle.model.specs.Soundness.{Sound};
 ghost use Rattle.model.specs.Upstream.{faultyRow};
-ghost use Rattle.upstream.specs.Parts.{rankedIn, dueBy};
 use crate::position::position_of;
 use crate::position::u8_to_usize;
 use model::Plan;
-use model::Stage;
-
-// Does the stage demand a resource whose rank is at most that of the target, counted from 0?
-fn ranked_up_to(demand: &[u8; 32], rank: &[u8; 32], n: usize, target: usize) -> bool
-    requires { ⌜ (n ≤ 32) × (target < 32) ⌝ }
-    ensures { λ r. ⌜ r ≡ rankedIn n (now (demand .entry)) (now (rank .entry)) (target + 1) ⌝ }
-{
-    let limit = rank[target];
-    let mut i = 0;
-    while i < n {
-        if 1 <= demand[i] {
-            if rank[i] <= limit {
-                return true;
-            }
-        }
-        i += 1;
-    }
-    false
-}
-
-// The weight due to a stage in the row of the target, counted from 0, where `later` is due to the stage after it.
-fn due_weight(s: Stage, rank: &[u8; 32], n: usize, target: usize, later: u8) -> u8
-    requires { ⌜ (n ≤ 32) × (target < 32) ⌝ }
-    ensures { λ r. ⌜ r ≡ dueBy n (s .demand) (now (rank .entry)) (target + 1) later ⌝ }
-{
-    let demand = s.demand;
-    if 1 <= demand[target] {
-        return 1;
-    }
-    if ranked_up_to(&demand, rank, n, target) {
-        later
-    } else {
-        0
-    }
-}
+use upstream_rows::due_weight;
 
 // The number of the row at which a search of n rows was left; 0 where it was not.
 fn fault_number(row: usize, n: usize) -> u32
@@ -59,7 +24,6 @@ pub(crate) fn faulty_row(p: Plan, end: usize) -> u32
     requires { ⌜ Sound p × (end ≡ allStages p) ⌝ }
     ensures { λ r. ⌜ r ≡ faultyRow p ⌝ }
 {
-    let resources = u8_to_usize(p.resources);
     let types = u8_to_usize(p.types);
     let rows = u8_to_usize(p.rows);
     let mut row = 0;
@@ -72,7 +36,7 @@ pub(crate) fn faulty_row(p: Plan, end: usize) -> u32
             }
             index -= 1;
             let s = p.stages[index];
-            due = due_weight(s, &p.rank, resources, row, due);
+            due = due_weight(s, &p.rank, p.resources, row, due);
             if s.weight[row] != due {
                 break 'rows;
             }

@@ -52,7 +52,7 @@ types-are : (c : tie.Else1) → plan (c .before) .types ≤ position (c .before)
 types-are c = omega (arith, c .if1 .left, c .before .before .before .before .before .u8-to-usize .ensures .0)
 
 first-other-requires : tie.Need-first-other-requires
-first-other-requires c κs = c .pre .resources .1
+first-other-requires c κs = tt
 
 u8-to-usize-requires : tie.Need-u8-to-usize-requires
 u8-to-usize-requires c κs = tt

@@ -4,7 +4,7 @@ use Prim.Native.Nat.{ℕ, suc, _+_, _-_, _≤_, _<_}
 use native.Mathlib.Numerals.{add-one}
 use native.Mathlib.Omega.{arith}
 use mathlib.Core.Bool.{false}
-use mathlib.Core.List.{List, []}
+use mathlib.Core.List.{[]}
 use mathlib.Core.Logic.{⊎-elim}
 use mathlib.Core.Path.{_≡_, refl, sym, ap, subst, _∙_}
 use lib.ListN.{length, getD}
@@ -18,7 +18,8 @@ use Rattle.model.specs.declared.Stage.{Stage}
 use Rattle.model.proofs.Arrays.{plan-stages}
 use Rattle.model.proofs.Flat.{index-within, stage-there}
 use Rattle.model.proofs.Search.{lowest-more}
-use Rattle.upstream.specs.Parts.{Stands, dueBy}
+use Rattle.upstream_rows.specs.Due.{dueBy}
+use Rattle.upstream.specs.Parts.{Stands}
 use Rattle.upstream.specs.declared.position.Position.{Position}
 use Rattle.upstream.proofs.RowSearch.{fault-found}
 use Rattle.upstream.proofs.RowWalk.{dueTo, Walk, Next, wrong-row, walk-starts, walk-ends, next-type, next-stage, next-due, walk-on}
@@ -26,21 +27,21 @@ use Rattle.upstream.proofs.rows.faulty_row.Statement.{statement}
 use Rattle.upstream.proofs.rows.faulty_row.Tie as tie
 
 abbrev Inv-stages : tie.InvT-stages
-Inv-stages end p resources types rows row index₀ due₀ index due = Walk p (suc row) index due
+Inv-stages end p types rows row index₀ due₀ index due = Walk p (suc row) index due
 
 abbrev μ-stages : tie.MeasureT-stages
-μ-stages end p resources types rows row index₀ due₀ index due = index
+μ-stages end p types rows row index₀ due₀ index due = index
 
 abbrev Inv-rows : tie.InvT-rows
-Inv-rows end p resources types rows row₀ row = (lowest row (upstreamRow p) ≡ 0) × (row ≤ rows)
+Inv-rows end p types rows row₀ row = (lowest row (upstreamRow p) ≡ 0) × (row ≤ rows)
 
 abbrev μ-rows : tie.MeasureT-rows
-μ-rows end p resources types rows row₀ row = rows - row
+μ-rows end p types rows row₀ row = rows - row
 
 -- where what is due to the stage after the next is known
 module _ (c : tie.Joined1 Inv-stages μ-stages Inv-rows μ-rows) where
   abbrev start : tie.Start Inv-stages μ-stages Inv-rows μ-rows
-  start = c .before .before .before .before .before .before .before .before .before .before .before .before
+  start = c .before .before .before .before .before .before .before .before .before .before .before
 
   abbrev plan : Plan
   plan = start .args .t1
@@ -66,7 +67,7 @@ module _ (c : tie.Joined1 Inv-stages μ-stages Inv-rows μ-rows) where
 
   stands : Stands (plan .lengths) (plan .types) (suc i) position
   stands =
-      let types = c .before .before .before .before .before .before .before .before .before .before .u8-to-usize2 in
+      let types = c .before .before .before .before .before .before .before .before .before .before .u8-to-usize in
       let here = subst (λ (n : ℕ). Stands (plan .lengths) (types .result) n position) more (c .before .before .position-of .ensures) in
       subst (λ (n : ℕ). Stands (plan .lengths) n (suc i) position) (types .ensures .0) here
 
@@ -91,19 +92,18 @@ module _ (c : tie.Joined1 Inv-stages μ-stages Inv-rows μ-rows) where
   unfolding weightOf
   weight-is = rw stage-is refl
 
-due-same : (rank : List ℕ) (later : ℕ) {m n r q : ℕ} {s u : Stage} → m ≡ n → r ≡ q → s ≡ u
-    → dueBy m (s .demand) rank r later ≡ dueBy n (u .demand) rank q later
-due-same rank later e f g = rw (e, f, g) refl
+due-same : (p : Plan) (later : ℕ) {r q : ℕ} {s u : Stage} → r ≡ q → s ≡ u
+    → dueBy (p .resources) (s .demand) (p .rank) r later ≡ dueBy (p .resources) (u .demand) (p .rank) q later
+due-same p later e f = rw (e, f) refl
 
 due-is : (c : tie.After-due-weight Inv-stages μ-stages Inv-rows μ-rows) →
     let j = c .before .before .before .before in
     c .due-weight .result ≡ dueTo (plan j) (suc (row j)) (next j .t) (next j .k)
 due-is c =
     let j = c .before .before .before .before in
-    let resources = j .before .before .before .before .before .before .before .before .before .before .before .u8-to-usize in
-    let given : c .due-weight .result ≡ dueBy (resources .result) (stage j .demand) (plan j .rank) (row j + 1) (j .if1 .due) = c .due-weight .ensures in
+    let given : c .due-weight .result ≡ dueBy (plan j .resources) (stage j .demand) (plan j .rank) (row j + 1) (j .if1 .due) = c .due-weight .ensures in
     given
-    ∙ due-same (plan j .rank) (j .if1 .due) (resources .ensures .0) (add-one (row j)) (sym (stage-is j))
+    ∙ due-same (plan j) (j .if1 .due) (add-one (row j)) (sym (stage-is j))
     ∙ sym (next-due (plan j) (suc (row j)) (next j))
 
 fault : (c : tie.Then2 Inv-stages μ-stages Inv-rows μ-rows) →
@@ -120,15 +120,12 @@ u8-to-usize-requires c κs = tt
 u8-to-usize-requires-2 : tie.Need-u8-to-usize-requires-2 Inv-stages μ-stages Inv-rows μ-rows
 u8-to-usize-requires-2 c κs = tt
 
-u8-to-usize-requires-3 : tie.Need-u8-to-usize-requires-3 Inv-stages μ-stages Inv-rows μ-rows
-u8-to-usize-requires-3 c κs = tt
-
 rows-holds : tie.Need-rows-holds Inv-stages μ-stages Inv-rows μ-rows
 rows-holds c = search needs
 
 stages-holds : tie.Need-stages-holds Inv-stages μ-stages Inv-rows μ-rows
 stages-holds c =
-    let start = c .before .before .before .before .before in
+    let start = c .before .before .before .before in
     let p = start .args .t1 in
     let r = suc (c .before .rows .row) in
     subst (λ (n : ℕ). Walk p r n 0) (sym (start .pre .1)) (walk-starts p r)
@@ -146,7 +143,7 @@ element-copy-out-s : tie.Need-element-copy-out-s Inv-stages μ-stages Inv-rows �
 element-copy-out-s c = inside c
 
 due-weight-requires : tie.Need-due-weight-requires Inv-stages μ-stages Inv-rows μ-rows
-due-weight-requires c κs = search needs
+due-weight-requires c κs = tt
 
 element-copy-out-if2 : tie.Need-element-copy-out-if2 Inv-stages μ-stages Inv-rows μ-rows
 element-copy-out-if2 c = search needs
@@ -169,7 +166,7 @@ rows-less c = search needs
 rows-again : tie.Need-rows-again Inv-stages μ-stages Inv-rows μ-rows
 rows-again c =
     let rows = c .before .before .before .rows in
-    let p = c .before .before .before .before .before .before .before .args .t1 in
+    let p = c .before .before .before .before .before .before .args .t1 in
     let r = suc (rows .row) in
     let end : c .before .stages .index ≡ 0 = omega (arith, c .stages-test .left) in
     let right = walk-ends p r (subst (λ (n : ℕ). Walk p r n (c .before .stages .due)) end (c .before .stages .inv)) in
@@ -179,8 +176,8 @@ fault-number-requires : tie.Need-fault-number-requires Inv-stages μ-stages Inv-
 fault-number-requires c κs = search needs
 
 -- the row at which the loops were left is wrong: its last turn, from its start to the stage with the wrong weight
-left-wrong : (c : tie.Left-rows Inv-stages μ-stages Inv-rows μ-rows) → c .before .rows .row < c .before .before .u8-to-usize3 .result
-    → upstreamRow (c .before .before .before .before .before .args .t1) (suc (c .before .rows .row)) ≡ false
+left-wrong : (c : tie.Left-rows Inv-stages μ-stages Inv-rows μ-rows) → c .before .rows .row < c .before .before .u8-to-usize2 .result
+    → upstreamRow (c .before .before .before .before .args .t1) (suc (c .before .rows .row)) ≡ false
 left-wrong c more =
     ⊎-elim (λ w. absurd (omega (arith, w .left, more)))
     (λ w.
@@ -205,8 +202,8 @@ returns : tie.Need-returns Inv-stages μ-stages Inv-rows μ-rows
 unfolding faultyRow
 returns c =
     let left = c .before in
-    let rows = left .before .before .u8-to-usize3 in
-    let p = left .before .before .before .before .before .args .t1 in
+    let rows = left .before .before .u8-to-usize2 in
+    let p = left .before .before .before .before .args .t1 in
     let inv = left .before .rows .inv in
     fault-found (upstreamRow p) (rows .result) (left .before .rows .row) _ (inv .0) (inv .1) (left-wrong left) (c .fault-number .ensures)
     ∙ ap (λ (n : ℕ). lowest n (upstreamRow p)) (rows .ensures .0)
@@ -221,7 +218,6 @@ faulty-row-spec =
     μ-rows
     u8-to-usize-requires
     u8-to-usize-requires-2
-    u8-to-usize-requires-3
     rows-holds
     stages-holds
     position-of-requires

@@ -46,7 +46,7 @@ element-copy-out-one-unit : tie.Need-element-copy-out-one-unit Inv-loop μ-loop
 element-copy-out-one-unit c = search needs
 
 one-unit-requires : tie.Need-one-unit-requires Inv-loop μ-loop
-one-unit-requires c κs = search needs
+one-unit-requires c κs = tt
 
 add-index : tie.Need-add-index Inv-loop μ-loop
 add-index c = search needs

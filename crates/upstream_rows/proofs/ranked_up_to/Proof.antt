@@ -1,27 +1,29 @@
--- No resource passed is demanded and ranked up to the target; the first that is decides.
+-- No resource passed is demanded and ranked up to the limit; the first that is decides. At the end all demands are passed, as
+-- proofs/Beyond says.
 use Prim.Native.Nat.{ℕ, _-_, _≤_}
 use native.Mathlib.Omega.{arith}
-use native.Mathlib.Numerals.{add-one}
 use mathlib.Core.Logic.{⊎-elim}
-use mathlib.Core.Path.{_≡_, refl, sym}
+use mathlib.Core.Path.{_≡_, refl, sym, _∙_}
 use mathlib.Core.Bool.{true, false, _&&_}
 use borrow.Author.Tests.{lt-leb, le-leb}
 use borrow.Author.Needs.{needs}
 use lib.Dec.{leb}
-use lib.ListN.{getD}
-use Rattle.model.specs.Numbers.{at, someTo}
+use lib.ListN.{length, getD}
+use Rattle.model.specs.Numbers.{at}
 use Rattle.model.proofs.Search.{some-more, some-holds}
-use Rattle.upstream.proofs.rows.ranked_up_to.Statement.{statement}
-use Rattle.upstream.proofs.rows.ranked_up_to.Tie as tie
+use Rattle.upstream_rows.specs.Due.{rankedIn}
+use Rattle.upstream_rows.proofs.Beyond.{demands-seen}
+use Rattle.upstream_rows.proofs.ranked_up_to.Statement.{statement}
+use Rattle.upstream_rows.proofs.ranked_up_to.Tie as tie
 
 abbrev Inv-loop : tie.InvT-loop
-Inv-loop demand rank n target limit i₀ i = (someTo i (λ (r : ℕ). leb 1 (at demand r) && leb (at rank r) limit) ≡ false) × (i ≤ n)
+Inv-loop rank resources limit s n i₀ i = (rankedIn i (s .demand) rank limit ≡ false) × (i ≤ n)
 
 abbrev μ-loop : tie.MeasureT-loop
-μ-loop demand rank n target limit i₀ i = n - i
+μ-loop rank resources limit s n i₀ i = n - i
 
-element-copy-out-limit : tie.Need-element-copy-out-limit Inv-loop μ-loop
-element-copy-out-limit c = search needs
+with-entries-requires : tie.Need-with-entries-requires Inv-loop μ-loop
+with-entries-requires c κs = tt
 
 loop-holds : tie.Need-loop-holds Inv-loop μ-loop
 loop-holds c = search needs
@@ -39,10 +41,9 @@ returns : tie.Need-returns Inv-loop μ-loop
 returns c =
     let start = c .before .before .before .before .before .before .before .args in
     let at = c .before .before .before .before .before .loop in
-    rw add-one
-    (sym (some-holds _ (start .n) (at .i) (c .before .before .before .before .loop-test .taken)
-    (both 1 (getD (start .demand .now) (at .i) 0) (getD (start .rank .now) (at .i) 0) (getD (start .rank .now) (start .target) 0)
-    (c .before .before .if1 .taken) (c .if2 .taken))))
+    sym (some-holds _ (start .resources) (at .i) (omega arith)
+    (both 1 (getD (start .t1 .demand) (at .i) 0) (getD (start .rank .now) (at .i) 0) (start .limit)
+    (c .before .before .if1 .taken) (c .if2 .taken)))
 
 add-i : tie.Need-add-i Inv-loop μ-loop
 add-i c = search needs
@@ -60,8 +61,12 @@ loop-again c =
 
 returns-2 : tie.Need-returns-2 Inv-loop μ-loop
 returns-2 c =
-    let e : c .before .loop .i ≡ c .before .before .before .args .n = omega arith in
-    rw (← e, add-one) (sym (c .before .loop .inv .0))
+    let start = c .before .before .before in
+    let entries = c .before .before .with-entries in
+    let long : length (start .args .t1 .demand) ≡ 32 = search needs in
+    let all : c .before .loop .i ≡ entries .result = omega arith in
+    sym (demands-seen _ long (entries .result) (start .args .resources) (entries .ensures) (λ q. leb (at (start .args .rank .now) q) (start .args .limit))
+    ∙ rw (← all) (c .before .loop .inv .0))
 
 pub ranked-up-to-spec : {M : Type 1} → statement M
 ranked-up-to-spec =
@@ -69,7 +74,7 @@ ranked-up-to-spec =
     (tie.spec
     Inv-loop
     μ-loop
-    element-copy-out-limit
+    with-entries-requires
     loop-holds
     element-copy-out-if1
     element-copy-out-if2

@@ -1,12 +1,14 @@
--- The sum so far is that of the units passed, and small.
+-- The sum so far is that of the units passed, and small; at the end all units are passed, as proofs/Beyond says.
 use Prim.Native.Nat.{_*_, _-_, _≤_}
 use native.Mathlib.Omega.{arith}
 use native.Mathlib.Numerals.{add-one}
 use mathlib.Core.Path.{_≡_, refl}
+use lib.ListN.{length}
 use borrow.Author.Needs.{needs}
 use Rattle.model.specs.Numbers.{at, sumTo}
-use Rattle.upstream.proofs.units.one_unit.Statement.{statement}
-use Rattle.upstream.proofs.units.one_unit.Tie as tie
+use Rattle.upstream_rows.proofs.Beyond.{units-seen}
+use Rattle.upstream_rows.proofs.one_unit.Statement.{statement}
+use Rattle.upstream_rows.proofs.one_unit.Tie as tie
 
 abbrev Inv-loop : tie.InvT-loop
 Inv-loop resources s n sum₀ i₀ sum i = (sum ≡ sumTo i (at (s .demand))) × (sum ≤ 255 * i) × (i ≤ n)
@@ -14,8 +16,8 @@ Inv-loop resources s n sum₀ i₀ sum i = (sum ≡ sumTo i (at (s .demand))) ×
 abbrev μ-loop : tie.MeasureT-loop
 μ-loop resources s n sum₀ i₀ sum i = n - i
 
-u8-to-usize-requires : tie.Need-u8-to-usize-requires Inv-loop μ-loop
-u8-to-usize-requires c κs = tt
+with-entries-requires : tie.Need-with-entries-requires Inv-loop μ-loop
+with-entries-requires c κs = tt
 
 loop-holds : tie.Need-loop-holds Inv-loop μ-loop
 loop-holds c = search needs
@@ -23,8 +25,8 @@ loop-holds c = search needs
 element-copy-out-u8-to-usize : tie.Need-element-copy-out-u8-to-usize Inv-loop μ-loop
 element-copy-out-u8-to-usize c = search needs
 
-u8-to-usize-requires-2 : tie.Need-u8-to-usize-requires-2 Inv-loop μ-loop
-u8-to-usize-requires-2 c κs = tt
+u8-to-usize-requires : tie.Need-u8-to-usize-requires Inv-loop μ-loop
+u8-to-usize-requires c κs = tt
 
 add-sum : tie.Need-add-sum Inv-loop μ-loop
 add-sum c = search needs
@@ -38,12 +40,15 @@ loop-less c = search needs
 loop-again : tie.Need-loop-again Inv-loop μ-loop
 loop-again c =
     let at = c .before .before .before .loop in
-    (rw (add-one, at .inv .0, c .u8-to-usize2 .ensures .0) refl, omega arith, omega arith)
+    (rw (add-one, at .inv .0, c .u8-to-usize .ensures .0) refl, omega arith, omega arith)
 
 returns : tie.Need-returns Inv-loop μ-loop
 returns c =
-    let all : c .before .loop .i ≡ c .before .before .before .args .resources = omega (arith, c .before .before .u8-to-usize .ensures .0) in
-    rw (← all, ← c .before .loop .inv .0) refl
+    let start = c .before .before .before in
+    let entries = c .before .before .with-entries in
+    let long : length (start .args .t1 .demand) ≡ 32 = search needs in
+    let all : c .before .loop .i ≡ entries .result = omega arith in
+    rw (units-seen _ long (entries .result) (start .args .resources) (entries .ensures), ← all, ← c .before .loop .inv .0) refl
 
 pub one-unit-spec : {M : Type 1} → statement M
 one-unit-spec =
@@ -51,10 +56,10 @@ one-unit-spec =
     (tie.spec
     Inv-loop
     μ-loop
-    u8-to-usize-requires
+    with-entries-requires
     loop-holds
     element-copy-out-u8-to-usize
-    u8-to-usize-requires-2
+    u8-to-usize-requires
     add-sum
     add-i
     loop-less

@@ -1,0 +1,2 @@
+-- The weight that is due to a stage.
+pub mod Due
