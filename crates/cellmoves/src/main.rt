@@ -4,7 +4,7 @@ use libc::STDERR_FILENO;
 use libc::STDIN_FILENO;
 use libc::STDOUT_FILENO;
 use messages::refusal_message;
-use shown_lines::part_of;
+use text_lines::part_of;
 use whole_run::ENOUGH;
 use whole_run::answer_input;
 

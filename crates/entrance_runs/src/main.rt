@@ -15,10 +15,10 @@ mod plan;
 mod table;
 
 use admission::Table;
-use bytes::scan::find;
 use libc::STDIN_FILENO;
 use line::field;
 use model::Plan;
+use text_lines::line_end;
 
 // A plan and a table, which need not go together.
 struct Cell {
@@ -51,7 +51,7 @@ fn run(text: &[u8]) {
     let mut kept = cell;
     let mut at = 0;
     while at < text.len() {
-        let end = find(text, at, text.len(), b'\n');
+        let end = line_end(text, at);
         let letter = text[at];
         let line = &text[at..end];
         at = end + 1;

@@ -2,13 +2,13 @@
 ghost use mathlib.Core.Path.{_≡_};
 ghost use Rattle.moves_text.specs.Division.{isMark, planLength};
 ghost use Rattle.moves_text.specs.EventLines.{eventWith, eventIn};
-use bytes::scan::find;
 use events::Event;
 use line_letters::is_skipped;
 use line_letters::letter_of;
 use moves_text::EventLine;
 use plan_text::Fields;
 use record_fields::fields_of;
+use text_lines::line_end;
 
 // The line is exactly `E` and its LF.
 fn is_mark(line: &[u8], ended: bool) -> bool
@@ -29,7 +29,7 @@ pub fn plan_length(input: &[u8]) -> usize
 {
     let mut at = 0;
     while at < input.len() {
-        let end = find(input, at, input.len(), b'\n');
+        let end = line_end(input, at);
         if is_mark(&input[at..end], end < input.len()) {
             return at;
         }

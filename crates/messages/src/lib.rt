@@ -12,7 +12,7 @@ use output_lines::put_text;
 use plan_numbers::text_number;
 use plan_text::TextAnswer;
 use reader::read;
-use shown_lines::part_of;
+use text_lines::part_of;
 
 // A byte that could upset a terminal is shown as `?`.
 fn visible(b: u8) -> u8

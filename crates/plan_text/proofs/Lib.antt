@@ -1,6 +1,7 @@
 -- The laws of the plan text, about its definitions. Read in this order.
 pub mod Split
 pub mod LineByLine
+pub mod LineReading
 pub mod LineForm
 pub mod RecordLists
 pub mod Sections

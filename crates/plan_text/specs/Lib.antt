@@ -1,6 +1,7 @@
--- What a plan text means, to be read in this order: its lines, its records, the plan that records write, the questions 1 to 7 as
+-- What a plan text means, to be read in this order: its lines, how they are read one by one, its records, the plan that records write, the questions 1 to 7 as
 -- they are worded, what an accepted text says of its plan, and the same computed.
 pub mod Lines
+pub mod LineReading
 pub mod Records
 pub mod Written
 pub mod TextQuestions

@@ -2,6 +2,15 @@
 // runs here.
 use model::Plan;
 
+// Where the line that begins at a place of a text ends, where the next begins, whether it has its LF, and whether the text was at
+// its end, so that there is none.
+pub struct LinePlace {
+    pub end: usize,
+    pub next: usize,
+    pub ended: bool,
+    pub over: bool,
+}
+
 // A record: the section of its letter, 1 to 7 in the order C, R, T, S, B, A, K, and its numbers in the order of the fields, 0
 // where it has no such field. Section 0 is no record: a skipped line.
 pub struct Record {

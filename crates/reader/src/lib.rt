@@ -9,7 +9,6 @@ ghost use Rattle.plan_text.specs.Lines.{linesOf};
 ghost use Rattle.plan_text.specs.Written.{emptyDraft, indexIn};
 ghost use Rattle.plan_text.specs.Reading.{refused, readFrom, reading};
 ghost use Rattle.plan_text.specs.ReaderParts.{formOf, planWith};
-use bytes::scan::find;
 use model::Plan;
 use model::Stage;
 use plan_entries::all_bounded;
@@ -28,6 +27,7 @@ use record_writes::stage_after;
 use record_writes::write_bound;
 use record_writes::write_entries;
 use soundness::is_sound;
+use text_lines::line_end;
 
 fn refusal(answer: TextAnswer, line: u32, from: usize, to: usize) -> Reading
     ensures { λ r. ⌜ r ≡ refused answer line from to ⌝ }
@@ -135,7 +135,7 @@ fn read_lines(text: &[u8]) -> Reading
     let mut line = 0;
     let mut at = 0;
     while at < text.len() {
-        let end = find(text, at, text.len(), b'\n');
+        let end = line_end(text, at);
         let next = end + 1;
         line += 1;
         let form = form_at(text, at, end, head.section);

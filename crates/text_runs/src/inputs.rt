@@ -10,15 +10,13 @@ use crate::lent::restore;
 use crate::lent::untouched;
 use crate::show::number;
 use crate::show::write;
-use bytes::scan::find;
-use shown_lines::part_of;
+use text_lines::line_end;
+use text_lines::part_of;
 
 // The line from a place on.
 fn line_from(s: &[u8], at: usize) {
-    if at < s.len() {
-        let end = find(s, at, s.len(), b'\n');
-        write(part_of(&s[at..end], 0, 60));
-    }
+    let line = part_of(s, at, line_end(s, at));
+    write(part_of(line, 0, 60));
     write(b"\n");
 }
 

@@ -18,6 +18,7 @@ use bytes::scan::find;
 use libc::STDIN_FILENO;
 use text::Space;
 use text::put_text;
+use text_lines::line_end;
 
 fn case(name: &[u8], line: &[u8], space: &mut Space, kept: usize) -> usize {
     let n = put_text(line, name.len(), space, kept);
@@ -49,7 +50,7 @@ fn run(cases: &[u8], space: &mut Space, out: &mut [u8]) {
     let mut kept = 0;
     let mut at = 0;
     while at < cases.len() {
-        let end = find(cases, at, cases.len(), b'\n');
+        let end = line_end(cases, at);
         kept = next(&cases[at..end], space, kept, out);
         at = end + 1;
     }

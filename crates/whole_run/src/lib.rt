@@ -3,13 +3,9 @@ ghost use mathlib.Core.Path.{_≡_};
 ghost use Prim.Native.Nat.{_+_, _≤_};
 ghost use lib.ListN.{length};
 ghost use Rattle.events.specs.JobList.{emptyList};
-ghost use Rattle.admission.specs.Table.{outcome};
 ghost use Rattle.moves_text.specs.Output.{toPrint, output};
 ghost use Rattle.moves_text.specs.Space.{filled, lengthFilled, overlaid, overlaidAt};
-use admission::Outcome;
 use admission::Table;
-use bytes::scan::find;
-use events::Event;
 use input_lines::event_of;
 use input_lines::plan_length;
 use model::Plan;
@@ -21,20 +17,12 @@ use output_lines::put_plan_line;
 use plan_lines::put_about;
 use plan_numbers::text_number;
 use reader::read;
-use shown_lines::part_of;
+use table_events::outcome_of;
+use text_lines::line_end;
+use text_lines::part_of;
 
 // A space of so many bytes is enough for every output.
 pub const ENOUGH: usize = 491526;
-
-fn moved(t: Table, p: Plan, e: Event) -> Outcome
-    ensures { λ r. ⌜ r ≡ outcome p t e ⌝ }
-{
-    match e {
-        Event::Load { job, kind } => t.load(p, job, kind),
-        Event::Advance(job) => t.advance(p, job),
-        Event::Unload(job) => t.unload(p, job),
-    }
-}
 
 // The lines of the events, each answered at the table that the ones before it left; the place after them.
 fn put_replies(events: &[u8], plan: Plan, space: &mut [u8], start: usize) -> usize
@@ -46,7 +34,7 @@ fn put_replies(events: &[u8], plan: Plan, space: &mut [u8], start: usize) -> usi
     let mut put = start;
     let mut at = 0;
     while at < events.len() {
-        let end = find(events, at, events.len(), b'\n');
+        let end = line_end(events, at);
         let line = event_of(&events[at..end], end < events.len());
         at = end + 1;
         match line {
@@ -58,7 +46,7 @@ fn put_replies(events: &[u8], plan: Plan, space: &mut [u8], start: usize) -> usi
             }
             EventLine::Given(event) => {
                 let before = table;
-                let outcome = moved(before, plan, event);
+                let outcome = outcome_of(before, plan, event);
                 let answer = outcome.answer;
                 let after = outcome.table;
                 let active = after.list.count as u32;

@@ -1,11 +1,12 @@
 -- The bytes passed and those left before the mark are the plan's length at every line; at the mark none is left.
-use Prim.Native.Nat.{ℕ, _+_, _-_, _<_}
+use Prim.Native.Nat.{ℕ, _+_, _-_, _≤_, _<_}
 use native.Mathlib.Omega.{arith}
 use mathlib.Core.List.{List}
 use mathlib.Core.Path.{_≡_, sym, _∙_}
 use lib.ListN.{length}
 use Rattle.bytes.specs.Bytes.{slice, indexOf}
 use Rattle.plan_text.specs.Lines.{lineEnd}
+use Rattle.plan_text.proofs.LineReading.{end-found, end-bounds}
 use Rattle.moves_text.specs.Division.{planLength}
 use Rattle.input_lines.proofs.PlanEnd.{planFrom, plan-from-start, plan-from-end, plan-ends, plan-goes-on}
 use Rattle.input_lines.proofs.plan_length.Statement.{statement}
@@ -18,7 +19,7 @@ abbrev μ-loop : tie.MeasureT-loop
 μ-loop input at₀ at = length input - at
 
 -- where the end of the line has been found
-module _ (c : tie.After-find Inv-loop μ-loop) where
+module _ (c : tie.After-line-end Inv-loop μ-loop) where
   abbrev turn : tie.At-loop Inv-loop μ-loop
   turn = c .before .before
 
@@ -29,28 +30,31 @@ module _ (c : tie.After-find Inv-loop μ-loop) where
   at = turn .loop .at
 
   abbrev end : ℕ
-  end = c .find .result
+  end = c .line-end .result
 
   there : at < length input
-  there = omega arith
+  there = c .before .loop-test .taken
 
   found : end ≡ at + indexOf lineEnd (slice at (length input) input)
-  found = c .find .ensures .0
+  found = end-found input at end (c .line-end .ensures) there
+
+  within : (at ≤ end) × (end ≤ length input)
+  within = end-bounds input at end (c .line-end .ensures) there
 
 loop-holds : tie.Need-loop-holds Inv-loop μ-loop
 loop-holds c = plan-from-start (c .before .args .input .now)
 
-find-requires : tie.Need-find-requires Inv-loop μ-loop
-find-requires c κs = omega arith
+line-end-requires : tie.Need-line-end-requires Inv-loop μ-loop
+line-end-requires c κs = omega arith
 
 sub-is-mark : tie.Need-sub-is-mark Inv-loop μ-loop
-sub-is-mark c = omega arith
+sub-is-mark c = omega (arith, within c)
 
 part-is-mark-start : tie.Need-part-is-mark-start Inv-loop μ-loop
-part-is-mark-start c = omega arith
+part-is-mark-start c = omega (arith, within c)
 
 part-is-mark-end : tie.Need-part-is-mark-end Inv-loop μ-loop
-part-is-mark-end c = omega arith
+part-is-mark-end c = omega (arith, within c)
 
 is-mark-requires : tie.Need-is-mark-requires Inv-loop μ-loop
 is-mark-requires c κs = omega arith
@@ -61,10 +65,10 @@ returns c =
     sym (turn f .loop .inv ∙ plan-ends (input f) (at f) (end f) (found f) (there f) (sym (c .before .is-mark .ensures) ∙ c .if1 .taken))
 
 add-at : tie.Need-add-at Inv-loop μ-loop
-add-at c = omega arith
+add-at c = omega (arith, within (c .before .before .before))
 
 loop-less : tie.Need-loop-less Inv-loop μ-loop
-loop-less c = omega arith
+loop-less c = omega (arith, within (c .before .before .before))
 
 loop-again : tie.Need-loop-again Inv-loop μ-loop
 loop-again c =
@@ -83,7 +87,7 @@ plan-length-spec =
     Inv-loop
     μ-loop
     loop-holds
-    find-requires
+    line-end-requires
     sub-is-mark
     part-is-mark-start
     part-is-mark-end

@@ -19,7 +19,7 @@ use Rattle.plan_text.specs.ReaderParts.{isAccepted, formAnswer, recordAnswer, n
 use Rattle.plan_text.specs.declared.Record.{Record}
 use Rattle.plan_text.specs.declared.Form.{Form}
 use Rattle.plan_text.specs.declared.TextAnswer.{TextAnswer}
-use Rattle.plan_text.proofs.LineByLine.{end-within}
+use Rattle.plan_text.proofs.LineReading.{end-found, end-bounds}
 use Rattle.plan_text.proofs.ReaderSteps.{place-within, parts-written}
 use Rattle.plan_text.proofs.TextAnswerTags.{refused-tag}
 use Rattle.reader.proofs.Going.{Going, going-start, read-out, lineAt, recordAt, answerAt, same-answer, record-met, form-refuses, record-refuses, goes-on}
@@ -49,25 +49,39 @@ module _ (c : tie.At-loop Inv-loop μ-loop) where
   going : Going text draft (c .loop .line) (c .loop .at)
   going = c .loop .inv
 
+-- where the end of a line has been found
+module _ (c : tie.After-line-end Inv-loop μ-loop) where
+  abbrev turned : tie.At-loop Inv-loop μ-loop
+  turned = c .before .before
+
+  something : turned .loop .at < length (text turned)
+  something = c .before .loop-test .taken
+
+  searched-to : c .line-end .result ≡ turned .loop .at + indexOf lineEnd (slice (turned .loop .at) (length (text turned)) (text turned))
+  searched-to = end-found (text turned) (turned .loop .at) (c .line-end .result) (c .line-end .ensures) something
+
+  line-within : (turned .loop .at ≤ c .line-end .result) × (c .line-end .result ≤ length (text turned))
+  line-within = end-bounds (text turned) (turned .loop .at) (c .line-end .result) (c .line-end .ensures) something
+
 -- where the form of a line is told
 module _ (c : tie.After-form-at Inv-loop μ-loop) where
-  abbrev turn : tie.At-loop Inv-loop μ-loop
-  turn = c .before .before .before
+  abbrev ended : tie.After-line-end Inv-loop μ-loop
+  ended = c .before
 
-  abbrev search-ended : tie.After-find Inv-loop μ-loop
-  search-ended = c .before
+  abbrev turn : tie.At-loop Inv-loop μ-loop
+  turn = turned ended
 
   turning : Going (text turn) (draft turn) (turn .loop .line) (turn .loop .at)
   turning = going turn
 
   abbrev end : ℕ
-  end = search-ended .find .result
+  end = ended .line-end .result
 
   there : turn .loop .at < length (text turn)
-  there = c .before .before .loop-test .taken
+  there = something ended
 
   found : end ≡ turn .loop .at + indexOf lineEnd (slice (turn .loop .at) (length (text turn)) (text turn))
-  found = search-ended .find .ensures .0
+  found = searched-to ended
 
   abbrev line : Line
   line = lineAt (text turn) (draft turn) (turn .loop .line) (turn .loop .at) turning end there found
@@ -105,7 +119,7 @@ module _ (c : tie.After-record-answer Inv-loop μ-loop) where
   place = placed .place-within .result
 
   searched : (t .loop .at ≤ end f) × (end f ≤ length (text t)) × (t .loop .at < length (text t))
-  searched = let w = end-within (text t) (t .loop .at) (end f) (found f) (there f) in (w .0, w .1, there f)
+  searched = let w = line-within (ended f) in (w .0, w .1, there f)
 
   -- the place is that of the record's stage, and the stage copied is the one that stands there
   place-told : inRanges (knownWith (t .loop .head .counts) (t .loop .capacity) (t .loop .lengths)) read ≡ true → place ≡ indexIn (t .loop .lengths) read
@@ -157,17 +171,17 @@ loop-holds c =
     rw (ap (λ (p : Plan). p .stages) (c .before .empty-plan .ensures), c .before .before .no-head .ensures)
     (going-start (now (c .before .before .before .before .args .text)))
 
-find-requires : tie.Need-find-requires Inv-loop μ-loop
-find-requires c κs = search needs
+line-end-requires : tie.Need-line-end-requires Inv-loop μ-loop
+line-end-requires c κs = search needs
 
 add-next : tie.Need-add-next Inv-loop μ-loop
-add-next c = search needs
+add-next c = omega (arith, line-within c, short (turned c))
 
 add-line : tie.Need-add-line Inv-loop μ-loop
 add-line c = search needs
 
 form-at-requires : tie.Need-form-at-requires Inv-loop μ-loop
-form-at-requires c κs = search needs
+form-at-requires c κs = line-within c
 
 enum-told : tie.Need-enum-told Inv-loop μ-loop
 enum-told c = search needs
@@ -272,7 +286,7 @@ read-lines-spec =
     no-head-requires
     empty-plan-requires
     loop-holds
-    find-requires
+    line-end-requires
     add-next
     add-line
     form-at-requires

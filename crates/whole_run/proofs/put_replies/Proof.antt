@@ -16,6 +16,7 @@ use Rattle.admission.specs.declared.Table.{Table}
 use Rattle.admission.specs.declared.Outcome.{Outcome}
 use Rattle.admission.specs.Table.{outcome}
 use Rattle.plan_text.specs.Lines.{Line, lineEnd, linesOf}
+use Rattle.plan_text.proofs.LineReading.{end-found, end-bounds}
 use Rattle.moves_text.specs.EventLines.{eventIn, counted}
 use Rattle.moves_text.specs.OutputLines.{eventLine, listAfterLine}
 use Rattle.moves_text.specs.Output.{replyTo}
@@ -56,13 +57,22 @@ module _ (c : tie.At-loop Inv-loop μ-loop) where
       let asked = begun .pre in
       (omega (arith, g .size, g .short, g .ordinals, g .within, asked), asked .0)
 
+-- where the end of a line has been found
+line-within : (c : tie.After-line-end Inv-loop μ-loop) → let t = c .before .before in
+    (t .loop .at ≤ c .line-end .result) × (c .line-end .result ≤ length (events t)) × (t .loop .at < length (events t))
+line-within c =
+    let t = c .before .before in
+    let there = c .before .loop-test .taken in
+    let w = end-bounds (events t) (t .loop .at) (c .line-end .result) (c .line-end .ensures) there in
+    (w .0, w .1, there)
+
 -- where a line is told
 module _ (c : tie.After-event-of Inv-loop μ-loop) where
   abbrev turn : tie.At-loop Inv-loop μ-loop
   turn = c .before .before .before .before
 
   abbrev end : ℕ
-  end = c .before .before .find .result
+  end = c .before .before .line-end .result
 
   abbrev here : Line
   here = record { bytes = take (end - turn .loop .at) (drop (turn .loop .at) (events turn)); ended = ltb end (length (events turn)) }
@@ -74,7 +84,7 @@ module _ (c : tie.After-event-of Inv-loop μ-loop) where
   there = c .before .before .before .loop-test .taken
 
   found : end ≡ turn .loop .at + indexOf lineEnd (slice (turn .loop .at) (length (events turn)) (events turn))
-  found = c .before .before .find .ensures .0
+  found = end-found (events turn) (turn .loop .at) end (c .before .before .line-end .ensures) there
 
   -- a counted line was answered, and its line of k bytes was put
   abbrev Next : JobList → ℕ → List ℕ → Type 0
@@ -107,21 +117,21 @@ module _ (c : tie.After-put-event-line Inv-loop μ-loop) where
       (c .put-event-line .result) _ (c .put-event-line .ensures)
 
 -- where an event is answered
-module _ (c : tie.After-moved Inv-loop μ-loop) where
+module _ (c : tie.After-outcome-of Inv-loop μ-loop) where
   abbrev read : tie.After-event-of Inv-loop μ-loop
   read = c .before .before .before .before
 
   abbrev event : Event
   event = c .before .before .line .given .0 .0
 
-  outcome-told : c .moved .result ≡ outcome (begun (turn read) .args .plan) (turn read .loop .table) event
-  outcome-told = c .moved .ensures
+  outcome-told : c .outcome-of .result ≡ outcome (begun (turn read) .args .plan) (turn read .loop .table) event
+  outcome-told = c .outcome-of .ensures
 
-  after-told : c .moved .result .table .list ≡ listAfter (begun (turn read) .args .plan) (table (turn read)) event
+  after-told : c .outcome-of .result .table .list ≡ listAfter (begun (turn read) .args .plan) (table (turn read)) event
   after-told = ap (λ (o : Outcome). o .table .list) outcome-told
 
 module _ (c : tie.After-put-event-line2 Inv-loop μ-loop) where
-  abbrev answering : tie.After-moved Inv-loop μ-loop
+  abbrev answering : tie.After-outcome-of Inv-loop μ-loop
   answering = c .before .before .before .before .before .before
 
   abbrev t : tie.At-loop Inv-loop μ-loop
@@ -133,10 +143,10 @@ module _ (c : tie.After-put-event-line2 Inv-loop μ-loop) where
   place-told : c .before .before .answer-place .result ≡ answerNumbers (answer (begun t .args .plan) (table t) (event answering)) .1
   place-told = c .before .before .answer-place .ensures ∙ ap (λ (o : Outcome). answerNumbers (o .answer) .1) (outcome-told answering)
 
-  answered : Next (read answering) (answering .moved .result .table .list) (c .put-event-line2 .result) (c .put-event-line2 .last .1 .1 .1 .1 .0)
+  answered : Next (read answering) (answering .outcome-of .result .table .list) (c .put-event-line2 .result) (c .put-event-line2 .last .1 .1 .1 .1 .0)
   answered =
       goes (read answering) (Given (event answering)) (some (event answering)) (answering .before .before .line .given .1) (λ ls. refl)
-      (answering .moved .result .table .list) (after-told answering) _
+      (answering .outcome-of .result .table .list) (after-told answering) _
       (λ i. eventLine (t .loop .ordinal) (number-told i) (place-told i) (after-told answering i .count)) (c .put-event-line2 .result) _
       (c .put-event-line2 .ensures)
 
@@ -148,29 +158,29 @@ loop-holds c =
     let a = c .before .before .before .args in
     rw (ap (λ (t : Table). t .list) (c .empty .ensures)) (going-start (a .plan) (now (a .events)) (now (a .space)) (a .start))
 
-find-requires : tie.Need-find-requires Inv-loop μ-loop
-find-requires c κs = search needs
+line-end-requires : tie.Need-line-end-requires Inv-loop μ-loop
+line-end-requires c κs = search needs
 
 sub-event-of : tie.Need-sub-event-of Inv-loop μ-loop
-sub-event-of c = search needs
+sub-event-of c = omega (arith, line-within c)
 
 part-event-of-start : tie.Need-part-event-of-start Inv-loop μ-loop
-part-event-of-start c = search needs
+part-event-of-start c = omega (arith, line-within c)
 
 part-event-of-end : tie.Need-part-event-of-end Inv-loop μ-loop
-part-event-of-end c = search needs
+part-event-of-end c = omega (arith, line-within c)
 
 event-of-requires : tie.Need-event-of-requires Inv-loop μ-loop
 event-of-requires c κs = search needs
 
 add-at : tie.Need-add-at Inv-loop μ-loop
-add-at c = search needs
+add-at c = omega (arith, line-within (c .before .before), far (turn c) .1)
 
 enum-told : tie.Need-enum-told Inv-loop μ-loop
 enum-told c = search needs
 
 loop-less : tie.Need-loop-less Inv-loop μ-loop
-loop-less c = search needs
+loop-less c = let d = c .before .before in omega (arith, line-within (d .before .before))
 
 loop-again : tie.Need-loop-again Inv-loop μ-loop
 loop-again c =
@@ -197,7 +207,7 @@ add-ordinal : tie.Need-add-ordinal Inv-loop μ-loop
 add-ordinal c = search needs
 
 loop-less-2 : tie.Need-loop-less-2 Inv-loop μ-loop
-loop-less-2 c = search needs
+loop-less-2 c = let d = unread (c .before .before) in omega (arith, line-within (d .before .before))
 
 loop-again-2 : tie.Need-loop-again-2 Inv-loop μ-loop
 loop-again-2 c = malformed (c .before .before) .1
@@ -205,8 +215,8 @@ loop-again-2 c = malformed (c .before .before) .1
 enum-known-line : tie.Need-enum-known-line Inv-loop μ-loop
 enum-known-line c = search needs
 
-moved-requires : tie.Need-moved-requires Inv-loop μ-loop
-moved-requires c κs = search needs
+outcome-of-requires : tie.Need-outcome-of-requires Inv-loop μ-loop
+outcome-of-requires c κs = search needs
 
 cast-active-2 : tie.Need-cast-active-2 Inv-loop μ-loop
 cast-active-2 c =
@@ -230,7 +240,7 @@ add-ordinal-2 : tie.Need-add-ordinal-2 Inv-loop μ-loop
 add-ordinal-2 c = search needs
 
 loop-less-3 : tie.Need-loop-less-3 Inv-loop μ-loop
-loop-less-3 c = search needs
+loop-less-3 c = let d = read (answering (c .before .before)) in omega (arith, line-within (d .before .before))
 
 loop-again-3 : tie.Need-loop-again-3 Inv-loop μ-loop
 loop-again-3 c = answered (c .before .before) .1
@@ -256,7 +266,7 @@ put-replies-spec =
     μ-loop
     empty-requires
     loop-holds
-    find-requires
+    line-end-requires
     sub-event-of
     part-event-of-start
     part-event-of-end
@@ -273,7 +283,7 @@ put-replies-spec =
     loop-less-2
     loop-again-2
     enum-known-line
-    moved-requires
+    outcome-of-requires
     cast-active-2
     answer-number-requires
     answer-place-requires

@@ -9,8 +9,8 @@ use lib.ListN.{length, take, drop, length-drop}
 use lib.Seq.{take-all}
 use Rattle.model.proofs.Decide.{decided, decides-le}
 use borrow.Author.Needs.{needs}
-use Rattle.shown_lines.proofs.part_of.Statement.{statement}
-use Rattle.shown_lines.proofs.part_of.Tie as tie
+use Rattle.text_lines.proofs.part_of.Statement.{statement}
+use Rattle.text_lines.proofs.part_of.Tie as tie
 
 module _ (text : List ℕ) (from to end : ℕ) (ends : end ≡ min to (length text)) where
   cut : take (end - from) (drop from text) ≡ take (to - from) (drop from text)

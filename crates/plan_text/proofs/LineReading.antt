@@ -1,0 +1,129 @@
+-- Reading line by line gives the lines of the definition: a reading finds the first line of what is left, and goes on behind it.
+use Prim.Native.Nat.{ℕ, zero, suc, _+_, _-_, _≤_, _<_}
+use native.Mathlib.Omega.{arith}
+use mathlib.Core.Bool.{Bool, true, false, cond}
+use mathlib.Core.List.{List, [], _∷_}
+use mathlib.Core.Logic.{⊎-elim}
+use mathlib.Core.Path.{_≡_, refl, sym, ap, _∙_}
+use lib.Dec.{ltb, leb}
+use lib.ListN.{length, take, drop, drop-of-length-le}
+use borrow.Author.Tests.{lt-ltb, le-ltb, le-leb, lt-leb, ltb-false}
+use Rattle.bytes.specs.Bytes.{slice, indexOf}
+use Rattle.model.proofs.Decide.{decided, decides-lt}
+use Rattle.plan_text.specs.Lines.{Line, lineEnd, linesOf}
+use Rattle.plan_text.specs.LineReading.{firstPlace, placeFrom, lineFrom, ReadToEnd}
+use Rattle.plan_text.specs.LineReading.ReadToEnd.{over, line}
+use Rattle.plan_text.specs.declared.LinePlace.{LinePlace}
+use Rattle.plan_text.proofs.LineByLine.{end-within, line-length, line-here, line-ended, line-unended, no-line}
+
+module _ (text : List ℕ) (at : ℕ) where
+  -- nothing is left
+  pub place-over : length text ≤ at → placeFrom text at ≡ record { end = at; next = at; ended = false; over = true }
+  unfolding placeFrom
+  place-over h = ap (firstPlace at) (no-line text at h)
+
+  -- something is left, and a search for its LF ends at a place
+  module _ (end : ℕ) (found : end ≡ at + indexOf lineEnd (slice at (length text) text)) (there : at < length text) where
+    ends : at + length (take (end - at) (drop at text)) ≡ end
+    ends = omega (arith, line-length text at end found there, end-within text at end found there)
+
+    pub place-there : placeFrom text at ≡ record { end = end; next = cond (ltb end (length text)) (end + 1) end; ended = ltb end (length text); over = false }
+    unfolding placeFrom
+    place-there =
+        ap (firstPlace at) (line-here text at end found there)
+        ∙ ap (λ (n : ℕ). record { end = n; next = cond (ltb end (length text)) (n + 1) n; ended = ltb end (length text); over = false }) ends
+
+    -- so where the line ends, the search does
+    pub place-end : placeFrom text at .end ≡ end
+    place-end = ap (λ (p : LinePlace). p .end) place-there
+
+    next-lines : linesOf (drop (end + 1) text) ≡ linesOf (drop (cond (ltb end (length text)) (end + 1) end) text)
+    next-lines =
+        ⊎-elim (λ (h : end < length text). rw (lt-ltb end (length text) h) refl)
+        (λ (h : ¬ (end < length text)).
+        rw (le-ltb end (length text) (omega arith), drop-of-length-le text {i = end + 1} (omega arith), drop-of-length-le text {i = end} (omega arith)) refl)
+        (decided (decides-lt end (length text)))
+
+    -- the first of the lines is the one found, and the others are those from the next place on
+    pub line-read : linesOf (drop at text) ≡ lineFrom text at ∷ linesOf (drop (placeFrom text at .next) text)
+    line-read =
+        line-here text at end found there
+        ∙ ap (λ (ls : List Line). record { bytes = take (end - at) (drop at text); ended = ltb end (length text) } ∷ ls) next-lines
+        ∙ sym (ap (λ (p : LinePlace). record { bytes = take (p .end - at) (drop at text); ended = p .ended } ∷ linesOf (drop (p .next) text)) place-there)
+
+    pub next-further : at < placeFrom text at .next
+    next-further = rw place-there (further (ltb end (length text)) refl)
+      where
+        further : (b : Bool) → ltb end (length text) ≡ b → at < cond b (end + 1) end
+        further true e = omega (arith, end-within text at end found there)
+        further false e = omega (arith, end-within text at end found there, ltb-false)
+
+  -- where a search for the next LF ends
+  abbrev searched : ℕ
+  searched = at + indexOf lineEnd (slice at (length text) text)
+
+  -- the text is at its end exactly where nothing is left
+  pub over-told : placeFrom text at .over ≡ true → length text ≤ at
+  over-told e =
+      ⊎-elim (λ (h : at < length text). absurd (differ (sym (ap (λ (p : LinePlace). p .over) (place-there searched refl h)) ∙ e)))
+      (λ (h : ¬ (at < length text)). omega arith)
+      (decided (decides-lt at (length text)))
+    where
+      differ : false ≡ true → ⊥
+      differ z = let y : _≡_ {A = ℕ} 0 1 = cc in omega arith
+
+  pub left-told : placeFrom text at .over ≡ false → at < length text
+  left-told e =
+      ⊎-elim (λ (h : at < length text). h)
+      (λ (h : ¬ (at < length text)). absurd (differ (sym (ap (λ (p : LinePlace). p .over) (place-over (omega arith))) ∙ e)))
+      (decided (decides-lt at (length text)))
+    where
+      differ : true ≡ false → ⊥
+      differ z = let y : _≡_ {A = ℕ} 0 1 = cc in omega arith
+
+  -- all is told by where the line ends
+  pub place-by-end : let end = placeFrom text at .end in
+      placeFrom text at ≡ record { end = end; next = cond (ltb end (length text)) (end + 1) end; ended = ltb end (length text); over = leb (length text) at }
+  place-by-end =
+      ⊎-elim
+      (λ (h : at < length text).
+      rw (lt-leb (length text) at h, place-there searched refl h) refl)
+      (λ (h : ¬ (at < length text)).
+      rw (le-leb (length text) at (omega arith), place-over (omega arith), le-ltb at (length text) (omega arith)) refl)
+      (decided (decides-lt at (length text)))
+
+-- for whoever has where a line ends, while something is left: a search for the next LF ends there, within the text
+module _ (text : List ℕ) (at end : ℕ) (e : end ≡ placeFrom text at .end) (there : at < length text) where
+  pub end-found : end ≡ at + indexOf lineEnd (slice at (length text) text)
+  end-found = e ∙ place-end text at (searched text at) refl there
+
+  pub end-bounds : (at ≤ end) × (end ≤ length text)
+  end-bounds = end-within text at end end-found there
+
+-- whoever reads to the end has read the lines of the text from that place on, and no others
+pub read-lines : {text : List ℕ} {at : ℕ} {ls : List Line} → ReadToEnd text at ls → ls ≡ linesOf (drop at text)
+read-lines {text} (over {at} e) = sym (no-line text at (over-told text at e))
+read-lines {text} (line {at} e r) =
+    ap (λ (ls : List Line). lineFrom text at ∷ ls) (read-lines r) ∙ sym (line-read text at (searched text at) refl (left-told text at e))
+
+-- reading comes to the end from every place: n is as many bytes as are left
+at-end : (text : List ℕ) (at : ℕ) → length text ≤ at → ReadToEnd text at (linesOf (drop at text))
+at-end text at h = rw (no-line text at h) (over (ap (λ (p : LinePlace). p .over) (place-over text at h)))
+
+reads-on : (n : ℕ) (text : List ℕ) (at : ℕ) → length text - at ≤ n → ReadToEnd text at (linesOf (drop at text))
+reads-on zero text at h = at-end text at (omega arith)
+reads-on (suc n) text at h =
+    ⊎-elim
+    (λ (there : at < length text).
+    let further = next-further text at (searched text at) refl there in
+    rw (line-read text at (searched text at) refl there)
+    (line (ap (λ (p : LinePlace). p .over) (place-there text at (searched text at) refl there)) (reads-on n text (placeFrom text at .next) (omega arith))))
+    (λ (none : ¬ (at < length text)). at-end text at (omega arith))
+    (decided (decides-lt at (length text)))
+
+-- so read from its start to its end a text gives exactly its lines
+pub read-to-end : (text : List ℕ) → ReadToEnd text 0 (linesOf text)
+read-to-end text = reads-on (length text) text 0 (omega arith)
+
+pub read-only-these : (text : List ℕ) (ls : List Line) → ReadToEnd text 0 ls → ls ≡ linesOf text
+read-only-these text ls r = read-lines r

@@ -1,0 +1,47 @@
+-- In each arm the event is known, and so is the method that it names.
+use mathlib.Core.Path.{sym, ap, _∙_}
+use borrow.Author.Needs.{needs}
+use Rattle.admission.specs.Table.{outcome}
+use Rattle.table_events.proofs.outcome_of.Statement.{statement}
+use Rattle.table_events.proofs.outcome_of.Tie as tie
+
+enum-known-event : tie.Need-enum-known-event
+enum-known-event c = search needs
+
+load-requires : tie.Need-load-requires
+load-requires c κs = search needs
+
+enum-known-event-2 : tie.Need-enum-known-event-2
+enum-known-event-2 c = search needs
+
+advance-requires : tie.Need-advance-requires
+advance-requires c κs = search needs
+
+enum-known-event-3 : tie.Need-enum-known-event-3
+enum-known-event-3 c = search needs
+
+unload-requires : tie.Need-unload-requires
+unload-requires c κs = search needs
+
+returns : tie.Need-returns
+returns c = let a = c .before .before .before .before .args in c .load .ensures ∙ ap (outcome (a .plan) (a .table)) (sym (c .before .before .event .given .1))
+
+returns-2 : tie.Need-returns-2
+returns-2 c = let a = c .before .before .before .before .args in c .advance .ensures ∙ ap (outcome (a .plan) (a .table)) (sym (c .before .before .event2 .given .1))
+
+returns-3 : tie.Need-returns-3
+returns-3 c = let a = c .before .before .before .before .args in c .unload .ensures ∙ ap (outcome (a .plan) (a .table)) (sym (c .before .before .event3 .given .1))
+
+pub outcome-of-spec : {M : Type 1} → statement M
+outcome-of-spec =
+    tie.close
+    (tie.spec
+    enum-known-event
+    load-requires
+    enum-known-event-2
+    advance-requires
+    enum-known-event-3
+    unload-requires
+    returns
+    returns-2
+    returns-3)

@@ -1,0 +1,49 @@
+// The lines of a text, found in this one place: where the line that begins at a place ends, and a part of a text.
+ghost use mathlib.Core.Path.{_≡_};
+ghost use Prim.Native.Nat.{_-_, min};
+ghost use lib.ListN.{take, drop};
+ghost use Rattle.plan_text.specs.LineReading.{placeFrom};
+use bytes::scan::find;
+use plan_text::LinePlace;
+
+// Where the line ends that begins at a place: at its LF or, without one, at the end of the text.
+pub fn line_end(text: &[u8], at: usize) -> usize
+    ensures { λ r. ⌜ r ≡ placeFrom (now (text .entry)) at .end ⌝ }
+{
+    if text.len() <= at {
+        return at;
+    }
+    find(text, at, text.len(), b'\n')
+}
+
+// All that is to be known of that line.
+pub fn line_at(text: &[u8], at: usize) -> LinePlace
+    ensures { λ r. ⌜ r ≡ placeFrom (now (text .entry)) at ⌝ }
+{
+    let end = line_end(text, at);
+    let ended = end < text.len();
+    let next = if ended { end + 1 } else { end };
+    LinePlace {
+        end,
+        next,
+        ended,
+        over: text.len() <= at,
+    }
+}
+
+fn at_most(n: usize, limit: usize) -> usize
+    ensures { λ r. ⌜ r ≡ min n limit ⌝ }
+{
+    if limit < n { limit } else { n }
+}
+
+// A part of the text, from one place up to another; what lies beyond the text is left out.
+pub fn part_of(text: &[u8], from: usize, to: usize) -> &[u8]
+    ensures { λ r. ⌜ now r ≡ take (to - from) (drop from (now (text .entry))) ⌝ }
+{
+    let end = at_most(to, text.len());
+    if end < from {
+        return &text[0..0];
+    }
+    &text[from..end]
+}
