@@ -1,0 +1,2 @@
+-- What an event does to a table that is lent.
+pub mod Decision

@@ -1,0 +1,42 @@
+// The table lent: an event is answered, and its outcome written into the host's own table. `decided` does the work and is
+// covered; `apply`, which is lent the table, is proved by hand.
+ghost use mathlib.Core.Path.{_≡_};
+ghost use Rattle.admission.specs.Table.{outcome};
+ghost use Rattle.lent_table.specs.Decision.{decision};
+use admission::Table;
+use events::Answer;
+use events::Event;
+use model::Plan;
+use numbers::answer_number;
+use table_events::outcome_of;
+
+// The answer to an event, whether the table is written, and the table that is then written.
+pub struct Decision {
+    pub answer: Answer,
+    pub writes: bool,
+    pub table: Table,
+}
+
+pub(crate) fn decided(table: Table, plan: Plan, event: Event) -> Decision
+    ensures { λ r. ⌜ r ≡ decision plan table event ⌝ }
+{
+    let outcome = outcome_of(table, plan, event);
+    let answer = outcome.answer;
+    let next = outcome.table;
+    Decision {
+        answer,
+        writes: answer_number(answer) == 0,
+        table: next,
+    }
+}
+
+// The table then holds what the outcome names. A refusal writes nothing.
+pub fn apply(table: &mut Table, plan: Plan, event: Event) -> Answer
+    ensures { λ r. ⌜ record { answer = r; table = now (table .exit) } ≡ outcome plan (now (table .entry)) event ⌝ }
+{
+    let decision = decided(*table, plan, event);
+    if decision.writes {
+        *table = decision.table;
+    }
+    decision.answer
+}
