@@ -1,0 +1,2 @@
+-- What a line reader says.
+pub mod LineReads

@@ -1,0 +1,42 @@
+// The line reader: it keeps a reference to a text and its position in it. Its functions take it apart and call those of
+// `text_lines`, which are covered; they themselves are proved by hand.
+ghost use mathlib.Core.Path.{_≡_};
+ghost use Rattle.line_reader.specs.LineReads.{readOf, readAt, atStart, readOn};
+use text_lines::line_at;
+use text_lines::part_of;
+
+pub struct LineReader<'a> {
+    pub text: &'a [u8],
+    pub at: usize,
+}
+
+// A line without its LF, as a part of the text; whether it had one; and whether the text was at its end, so that there is no line.
+pub struct TextLine<'a> {
+    pub bytes: &'a [u8],
+    pub ended: bool,
+    pub over: bool,
+}
+
+impl<'a> LineReader<'a> {
+    pub fn new(text: &'a [u8]) -> LineReader<'a>
+        ensures { λ r. ⌜ r ≡ atStart (text .entry) ⌝ }
+    {
+        LineReader { text, at: 0 }
+    }
+
+    // The next line. At the end of the text there is none, and the reader stays there.
+    pub fn next<'s>(&'s mut self) -> TextLine<'a>
+        ensures { λ r. ⌜ (readOf r ≡ readAt (now (now (self .entry) .text)) (now (self .entry) .at)) × (now (self .exit) ≡ readOn (now (self .entry))) ⌝ }
+    {
+        let text = self.text;
+        let at = self.at;
+        let place = line_at(text, at);
+        let bytes = part_of(text, at, place.end);
+        self.at = place.next;
+        TextLine {
+            bytes,
+            ended: place.ended,
+            over: place.over,
+        }
+    }
+}
