@@ -1,8 +1,8 @@
--- What a line reader says, and where it then stands. Reading to the end gives exactly the lines of the text: `read-to-end` and
--- `read-only-these` of the crate `plan_text`.
+-- What a line reader says, where it then stands, and what reading to the end of its text gives.
 use Prim.Native.Nat.{ℕ}
-use mathlib.Core.Bool.{Bool}
-use mathlib.Core.List.{List}
+use mathlib.Core.Bool.{Bool, true, false}
+use mathlib.Core.List.{List, [], _∷_}
+use mathlib.Core.Path.{_≡_}
 use denote.Ref.{RefT, now}
 use Rattle.plan_text.specs.Lines.{Line}
 use Rattle.plan_text.specs.LineReading.{placeFrom, lineFrom}
@@ -18,13 +18,18 @@ pub record Read : Type 0 where
 abbrev pub readOf : TextLine → Read
 readOf l = record { line = record { bytes = now (l .bytes); ended = l .ended }; over = l .over }
 
--- what is read at a place of a text
-abbrev pub readAt : List ℕ → ℕ → Read
-readAt text at = record { line = lineFrom text at; over = placeFrom text at .over }
-
--- a reader at the start of a text, and a reader after it has read
+-- a reader at the start of a text
 abbrev pub atStart : RefT (List ℕ) → LineReader
 atStart text = record { text = text; at = 0 }
 
+-- what a reader reads next, and the reader after that
+abbrev pub readNext : LineReader → Read
+readNext r = let text = now (r .text) in record { line = lineFrom text (r .at); over = placeFrom text (r .at) .over }
+
 abbrev pub readOn : LineReader → LineReader
 readOn r = record { text = r .text; at = placeFrom (now (r .text)) (r .at) .next }
+
+-- read on until its text is at its end, the reader has read these lines
+pub data ReadToEnd : LineReader → List Line → Type 0 where
+  over : {r : LineReader} → readNext r .over ≡ true → ReadToEnd r []
+  line : {r : LineReader} {ls : List Line} → readNext r .over ≡ false → ReadToEnd (readOn r) ls → ReadToEnd r (readNext r .line ∷ ls)

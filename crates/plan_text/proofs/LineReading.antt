@@ -1,8 +1,9 @@
--- Reading line by line gives the lines of the definition: a reading finds the first line of what is left, and goes on behind it.
-use Prim.Native.Nat.{ℕ, zero, suc, _+_, _-_, _≤_, _<_}
+-- The line that begins at a place is the first of the lines that are left, and the others begin behind it: by where a search for
+-- the next LF ends.
+use Prim.Native.Nat.{ℕ, _+_, _-_, _≤_, _<_}
 use native.Mathlib.Omega.{arith}
 use mathlib.Core.Bool.{Bool, true, false, cond}
-use mathlib.Core.List.{List, [], _∷_}
+use mathlib.Core.List.{List, _∷_}
 use mathlib.Core.Logic.{⊎-elim}
 use mathlib.Core.Path.{_≡_, refl, sym, ap, _∙_}
 use lib.Dec.{ltb, leb}
@@ -11,10 +12,9 @@ use borrow.Author.Tests.{lt-ltb, le-ltb, le-leb, lt-leb, ltb-false}
 use Rattle.bytes.specs.Bytes.{slice, indexOf}
 use Rattle.model.proofs.Decide.{decided, decides-lt}
 use Rattle.plan_text.specs.Lines.{Line, lineEnd, linesOf}
-use Rattle.plan_text.specs.LineReading.{firstPlace, placeFrom, lineFrom, ReadToEnd}
-use Rattle.plan_text.specs.LineReading.ReadToEnd.{over, line}
+use Rattle.plan_text.specs.LineReading.{firstPlace, placeFrom, lineFrom}
 use Rattle.plan_text.specs.declared.LinePlace.{LinePlace}
-use Rattle.plan_text.proofs.LineByLine.{end-within, line-length, line-here, line-ended, line-unended, no-line}
+use Rattle.plan_text.proofs.LineByLine.{end-within, line-length, line-here, no-line}
 
 module _ (text : List ℕ) (at : ℕ) where
   -- nothing is left
@@ -99,31 +99,3 @@ module _ (text : List ℕ) (at end : ℕ) (e : end ≡ placeFrom text at .end) (
 
   pub end-bounds : (at ≤ end) × (end ≤ length text)
   end-bounds = end-within text at end end-found there
-
--- whoever reads to the end has read the lines of the text from that place on, and no others
-pub read-lines : {text : List ℕ} {at : ℕ} {ls : List Line} → ReadToEnd text at ls → ls ≡ linesOf (drop at text)
-read-lines {text} (over {at} e) = sym (no-line text at (over-told text at e))
-read-lines {text} (line {at} e r) =
-    ap (λ (ls : List Line). lineFrom text at ∷ ls) (read-lines r) ∙ sym (line-read text at (searched text at) refl (left-told text at e))
-
--- reading comes to the end from every place: n is as many bytes as are left
-at-end : (text : List ℕ) (at : ℕ) → length text ≤ at → ReadToEnd text at (linesOf (drop at text))
-at-end text at h = rw (no-line text at h) (over (ap (λ (p : LinePlace). p .over) (place-over text at h)))
-
-reads-on : (n : ℕ) (text : List ℕ) (at : ℕ) → length text - at ≤ n → ReadToEnd text at (linesOf (drop at text))
-reads-on zero text at h = at-end text at (omega arith)
-reads-on (suc n) text at h =
-    ⊎-elim
-    (λ (there : at < length text).
-    let further = next-further text at (searched text at) refl there in
-    rw (line-read text at (searched text at) refl there)
-    (line (ap (λ (p : LinePlace). p .over) (place-there text at (searched text at) refl there)) (reads-on n text (placeFrom text at .next) (omega arith))))
-    (λ (none : ¬ (at < length text)). at-end text at (omega arith))
-    (decided (decides-lt at (length text)))
-
--- so read from its start to its end a text gives exactly its lines
-pub read-to-end : (text : List ℕ) → ReadToEnd text 0 (linesOf text)
-read-to-end text = reads-on (length text) text 0 (omega arith)
-
-pub read-only-these : (text : List ℕ) (ls : List Line) → ReadToEnd text 0 ls → ls ≡ linesOf text
-read-only-these text ls r = read-lines r

@@ -1,4 +1,4 @@
--- What a plan text means, to be read in this order: its lines, how they are read one by one, its records, the plan that records write, the questions 1 to 7 as
+-- What a plan text means, to be read in this order: its lines, the line that begins at a place, its records, the plan that records write, the questions 1 to 7 as
 -- they are worded, what an accepted text says of its plan, and the same computed.
 pub mod Lines
 pub mod LineReading

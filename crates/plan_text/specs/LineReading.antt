@@ -1,8 +1,7 @@
--- A text read line by line from a place on, and what reading it to its end gives.
+-- The line that begins at a place of a text: where it stands, and its bytes.
 use Prim.Native.Nat.{ℕ, _+_, _-_}
 use mathlib.Core.Bool.{true, false, cond}
 use mathlib.Core.List.{List, [], _∷_}
-use mathlib.Core.Path.{_≡_}
 use lib.ListN.{length, take, drop}
 use Rattle.plan_text.specs.Lines.{Line, linesOf}
 use Rattle.plan_text.specs.declared.LinePlace.{LinePlace}
@@ -20,9 +19,3 @@ placeFrom text at = firstPlace at (linesOf (drop at text))
 -- that line: the part up to its end, without its LF
 abbrev pub lineFrom : List ℕ → ℕ → Line
 lineFrom text at = let p = placeFrom text at in record { bytes = take (p .end - at) (drop at text); ended = p .ended }
-
--- reading on from a place until the text is at its end gives these lines
-pub data ReadToEnd (text : List ℕ) : ℕ → List Line → Type 0 where
-  over : {at : ℕ} → placeFrom text at .over ≡ true → ReadToEnd text at []
-  line : {at : ℕ} {ls : List Line} → placeFrom text at .over ≡ false → ReadToEnd text (placeFrom text at .next) ls
-      → ReadToEnd text at (lineFrom text at ∷ ls)

@@ -323,7 +323,7 @@ module _ {M : Type 1} (𝓤 : URA M) (H : Heap 𝓤) (A : Atoms 𝓤) (W : Given
           (λ over. assigns ! (of-opd ! (unit-lit !)) (from ! (stop !)) (init ! 38 refl (tt, tt)) $ returns-within ! Post refl (look ! 38 refl) $ drop ! $ split ! $
           forget ! 3 refl $ forget ! 18 refl $ forget ! 20 refl $ forget ! 30 refl $ forget ! 34 refl $ forget ! 36 refl $ forget ! 38 refl $ ends (on (i .0)))
           (λ more. skips ! $ exec ! C Λ En tested (anyQ (Turned i)) $ forget ! 18 refl $ forget ! 20 refl $
-          answers i l (LL.owed (R.the-type (α κ)) (R′.the-laws (α κ)) l _ is .0) (nearer (now s) (i .0) l e more))))))))
+          answers i l (LL.owed (R.the-type (α κ)) (R′.the-laws (α κ)) l _ is .0) (nearer (at-place (i .0)) l e more))))))))
 
     walk : Is (ShrSlice (named 0) κ u8) s (vs ∷ []) → ent 𝓤 Entry (WpFn 𝓤 H C Λ code.function (plan-val p ∷ vs ∷ []) Post)
     walk is-s =

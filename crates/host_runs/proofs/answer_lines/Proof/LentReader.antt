@@ -6,7 +6,6 @@
 --     nearer               where a line was read, less of the text is left
 use mathlib.Core.Path.{_≡_, refl, sym, ap, _∙_}
 use Prim.Native.Nat.{ℕ, _<_, _-_}
-use native.Mathlib.Omega.{arith}
 use mathlib.Core.Bool.{Bool, true, false, not}
 use mathlib.Core.List.{List, [], _∷_}
 use lib.Dec.{T as Holds}
@@ -41,9 +40,8 @@ use denote.Struct.Steps.{spelt}
 use denote.Triple.Statement.{Contract}
 use denote.Triple.Clauses.{ensured, lasts}
 use denote.Triple.Spec.{tripleOf}
-use Rattle.plan_text.specs.LineReading.{placeFrom}
-use Rattle.plan_text.proofs.LineReading.{next-further, left-told}
-use Rattle.line_reader.specs.LineReads.{Read, readOf, readAt, readOn, atStart}
+use Rattle.line_reader.specs.LineReads.{Read, readOf, readNext, readOn, atStart}
+use Rattle.line_reader.proofs.ToEnd.{less-left}
 use Rattle.line_reader.specs.declared.LineReader.{LineReader}
 use Rattle.line_reader.specs.declared.TextLine.{TextLine}
 use Rattle.line_reader.proofs.LineReader as D
@@ -70,7 +68,7 @@ LineOwn κ l u = R.the-row (α κ) .own l (u ∷ [])
 
 -- what `next` says of the line that it read with the reader d
 abbrev pub Said : LineReader → TextLine → Type 0
-Said d l = readOf l ≡ readAt (now (d .text)) (d .at)
+Said d l = readOf l ≡ readNext d
 
 -- the machine value of a text, and what it owns
 abbrev pub v : RefT (List ℕ) → Val
@@ -79,12 +77,9 @@ v s = sliceVal (s .ptr) (length (s .now))
 abbrev pub Own : Lft → RefT (List ℕ) → Fml
 Own κ s = ShrSlice (named 0) κ u8 .own s (v s ∷ [])
 
--- a line was read at a place, so there was one, and the next place lies further
-pub nearer : (text : List ℕ) (at : ℕ) (l : TextLine) → readOf l ≡ readAt text at → Holds (not (l .over)) → length text - placeFrom text at .next < length text - at
-nearer text at l e more =
-    let there = left-told text at (sym (ap (λ (r : Read). r .over) e) ∙ is-false (l .over) more) in
-    let further = next-further text at _ refl there in
-    omega (arith, there, further)
+-- a line was read, so less of the text is left
+pub nearer : (d : LineReader) (l : TextLine) → Said d l → Holds (not (l .over)) → length (now (d .text)) - readOn d .at < length (now (d .text)) - d .at
+nearer d l e more = less-left d (sym (ap (λ (r : Read). r .over) e) ∙ is-false (l .over) more)
   where
     is-false : (t : Bool) → Holds (not t) → t ≡ false
     is-false true z = absurd z

@@ -48,7 +48,7 @@ use denote.Triple.Table.{entered, cited}
 use denote.Triple.Walked.{says, Stays, stay-ref, walkOf, goes-ref, Walks, ends-at, walked, walk-meets}
 use Rattle.plan_text.specs.LineReading.{placeFrom}
 use Rattle.plan_text.specs.declared.LinePlace.{LinePlace}
-use Rattle.line_reader.specs.LineReads.{readOf, readAt, readOn}
+use Rattle.line_reader.specs.LineReads.{readOf, readNext, readOn}
 use Rattle.line_reader.specs.declared.LineReader.{LineReader}
 use Rattle.line_reader.specs.declared.TextLine.{TextLine}
 use Rattle.line_reader.proofs.LineReader as T
@@ -190,7 +190,7 @@ module _ {M : Type 1} (𝓤 : URA M) (H : Heap 𝓤) (A : Atoms 𝓤) (W : Given
 
   -- what the contract says, of what the callees said
   abbrev Said : TextLine → LineReader → Type 0
-  Said l d = (readOf l ≡ readAt (now (h .text)) (h .at)) × (d ≡ readOn h)
+  Said l d = (readOf l ≡ readNext h) × (d ≡ readOn h)
 
   said : (r : RefT (List ℕ)) (p : LinePlace) → p ≡ found → PartSaid p r → Said (lined r p) (moved (p .next))
   said r p e e′ = (

@@ -1,0 +1,2 @@
+-- Reading to the end.
+pub mod ToEnd
