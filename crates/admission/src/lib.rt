@@ -92,6 +92,17 @@ impl Table {
         }
     }
 
+    // Any event, by the method that it names.
+    pub fn handle(self, p: Plan, event: Event) -> Outcome
+        ensures { λ r. ⌜ r ≡ outcome p self event ⌝ }
+    {
+        match event {
+            Event::Load { job, kind } => self.load(p, job, kind),
+            Event::Advance(job) => self.advance(p, job),
+            Event::Unload(job) => self.unload(p, job),
+        }
+    }
+
     // Moves of the earliest loaded job for which one is admitted, as long as there is budget.
     pub fn drain(self, p: Plan, budget: u32) -> Drained
         ensures { λ r. ⌜ r ≡ drain p self budget ⌝ }

@@ -8,7 +8,6 @@ use events::Answer;
 use events::Event;
 use model::Plan;
 use numbers::answer_number;
-use table_events::outcome_of;
 
 // The answer to an event, whether the table is written, and the table that is then written.
 pub struct Decision {
@@ -20,7 +19,7 @@ pub struct Decision {
 pub(crate) fn decided(table: Table, plan: Plan, event: Event) -> Decision
     ensures { λ r. ⌜ r ≡ decision plan table event ⌝ }
 {
-    let outcome = outcome_of(table, plan, event);
+    let outcome = table.handle(plan, event);
     let answer = outcome.answer;
     let next = outcome.table;
     Decision {

@@ -56,10 +56,15 @@ fn run(cases: &[u8], space: &mut Space, out: &mut [u8]) {
     }
 }
 
-fn main() {
-    let mut cases = io::large_buffer();
+// The space that a case's text is put into, and the one that is lent to an entrance.
+fn run_in_spaces(cases: &[u8]) {
     let mut space = [0u8; 65600];
     let mut out = [lent::UNTOUCHED; whole_run::ENOUGH];
+    run(cases, &mut space, &mut out);
+}
+
+fn main() {
+    let mut cases = io::large_buffer();
     let n = io::read_full(STDIN_FILENO, &mut cases);
-    run(&cases[..n], &mut space, &mut out);
+    run_in_spaces(&cases[..n]);
 }

@@ -17,7 +17,6 @@ use output_lines::put_plan_line;
 use plan_lines::put_about;
 use plan_numbers::text_number;
 use reader::read;
-use table_events::outcome_of;
 use text_lines::line_end;
 use text_lines::part_of;
 
@@ -46,7 +45,7 @@ fn put_replies(events: &[u8], plan: Plan, space: &mut [u8], start: usize) -> usi
             }
             EventLine::Given(event) => {
                 let before = table;
-                let outcome = outcome_of(before, plan, event);
+                let outcome = before.handle(plan, event);
                 let answer = outcome.answer;
                 let after = outcome.table;
                 let active = after.list.count as u32;

@@ -15,14 +15,14 @@ made o n = record { answer = o .answer; writes = eqb n 0; table = o .table }
 same : (o o′ : Outcome) (n : ℕ) → o ≡ o′ → n ≡ answerNumbers (o .answer) .0 → made o n ≡ made o′ (answerNumbers (o′ .answer) .0)
 same o o′ n e f = ap (made o) f ∙ ap (λ u. made u (answerNumbers (u .answer) .0)) e
 
-outcome-of-requires : tie.Need-outcome-of-requires
-outcome-of-requires c κs = search needs
+handle-requires : tie.Need-handle-requires
+handle-requires c κs = search needs
 
 answer-number-requires : tie.Need-answer-number-requires
 answer-number-requires c κs = search needs
 
 returns : tie.Need-returns
-returns c = same _ _ _ (c .before .before .outcome-of .ensures) (c .answer-number .ensures)
+returns c = same _ _ _ (c .before .before .handle .ensures) (c .answer-number .ensures)
 
 pub decided-spec : {M : Type 1} → statement M
-decided-spec = tie.close (tie.spec outcome-of-requires answer-number-requires returns)
+decided-spec = tie.close (tie.spec handle-requires answer-number-requires returns)

@@ -117,21 +117,21 @@ module _ (c : tie.After-put-event-line Inv-loop μ-loop) where
       (c .put-event-line .result) _ (c .put-event-line .ensures)
 
 -- where an event is answered
-module _ (c : tie.After-outcome-of Inv-loop μ-loop) where
+module _ (c : tie.After-handle Inv-loop μ-loop) where
   abbrev read : tie.After-event-of Inv-loop μ-loop
   read = c .before .before .before .before
 
   abbrev event : Event
   event = c .before .before .line .given .0 .0
 
-  outcome-told : c .outcome-of .result ≡ outcome (begun (turn read) .args .plan) (turn read .loop .table) event
-  outcome-told = c .outcome-of .ensures
+  outcome-told : c .handle .result ≡ outcome (begun (turn read) .args .plan) (turn read .loop .table) event
+  outcome-told = c .handle .ensures
 
-  after-told : c .outcome-of .result .table .list ≡ listAfter (begun (turn read) .args .plan) (table (turn read)) event
+  after-told : c .handle .result .table .list ≡ listAfter (begun (turn read) .args .plan) (table (turn read)) event
   after-told = ap (λ (o : Outcome). o .table .list) outcome-told
 
 module _ (c : tie.After-put-event-line2 Inv-loop μ-loop) where
-  abbrev answering : tie.After-outcome-of Inv-loop μ-loop
+  abbrev answering : tie.After-handle Inv-loop μ-loop
   answering = c .before .before .before .before .before .before
 
   abbrev t : tie.At-loop Inv-loop μ-loop
@@ -143,10 +143,10 @@ module _ (c : tie.After-put-event-line2 Inv-loop μ-loop) where
   place-told : c .before .before .answer-place .result ≡ answerNumbers (answer (begun t .args .plan) (table t) (event answering)) .1
   place-told = c .before .before .answer-place .ensures ∙ ap (λ (o : Outcome). answerNumbers (o .answer) .1) (outcome-told answering)
 
-  answered : Next (read answering) (answering .outcome-of .result .table .list) (c .put-event-line2 .result) (c .put-event-line2 .last .1 .1 .1 .1 .0)
+  answered : Next (read answering) (answering .handle .result .table .list) (c .put-event-line2 .result) (c .put-event-line2 .last .1 .1 .1 .1 .0)
   answered =
       goes (read answering) (Given (event answering)) (some (event answering)) (answering .before .before .line .given .1) (λ ls. refl)
-      (answering .outcome-of .result .table .list) (after-told answering) _
+      (answering .handle .result .table .list) (after-told answering) _
       (λ i. eventLine (t .loop .ordinal) (number-told i) (place-told i) (after-told answering i .count)) (c .put-event-line2 .result) _
       (c .put-event-line2 .ensures)
 
@@ -215,8 +215,8 @@ loop-again-2 c = malformed (c .before .before) .1
 enum-known-line : tie.Need-enum-known-line Inv-loop μ-loop
 enum-known-line c = search needs
 
-outcome-of-requires : tie.Need-outcome-of-requires Inv-loop μ-loop
-outcome-of-requires c κs = search needs
+handle-requires : tie.Need-handle-requires Inv-loop μ-loop
+handle-requires c κs = search needs
 
 cast-active-2 : tie.Need-cast-active-2 Inv-loop μ-loop
 cast-active-2 c =
@@ -283,7 +283,7 @@ put-replies-spec =
     loop-less-2
     loop-again-2
     enum-known-line
-    outcome-of-requires
+    handle-requires
     cast-active-2
     answer-number-requires
     answer-place-requires

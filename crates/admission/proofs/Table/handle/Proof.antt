@@ -1,9 +1,9 @@
 -- In each arm the event is known, and so is the method that it names.
 use mathlib.Core.Path.{sym, ap, _∙_}
 use borrow.Author.Needs.{needs}
 use Rattle.admission.specs.Table.{outcome}
-use Rattle.table_events.proofs.outcome_of.Statement.{statement}
-use Rattle.table_events.proofs.outcome_of.Tie as tie
+use Rattle.admission.proofs.Table.handle.Statement.{statement}
+use Rattle.admission.proofs.Table.handle.Tie as tie
 
 enum-known-event : tie.Need-enum-known-event
 enum-known-event c = search needs
@@ -24,16 +24,16 @@ unload-requires : tie.Need-unload-requires
 unload-requires c κs = search needs
 
 returns : tie.Need-returns
-returns c = let a = c .before .before .before .before .args in c .load .ensures ∙ ap (outcome (a .plan) (a .table)) (sym (c .before .before .event .given .1))
+returns c = let a = c .before .before .before .before .args in c .load .ensures ∙ ap (outcome (a .p) (a .self)) (sym (c .before .before .event .given .1))
 
 returns-2 : tie.Need-returns-2
-returns-2 c = let a = c .before .before .before .before .args in c .advance .ensures ∙ ap (outcome (a .plan) (a .table)) (sym (c .before .before .event2 .given .1))
+returns-2 c = let a = c .before .before .before .before .args in c .advance .ensures ∙ ap (outcome (a .p) (a .self)) (sym (c .before .before .event2 .given .1))
 
 returns-3 : tie.Need-returns-3
-returns-3 c = let a = c .before .before .before .before .args in c .unload .ensures ∙ ap (outcome (a .plan) (a .table)) (sym (c .before .before .event3 .given .1))
+returns-3 c = let a = c .before .before .before .before .args in c .unload .ensures ∙ ap (outcome (a .p) (a .self)) (sym (c .before .before .event3 .given .1))
 
-pub outcome-of-spec : {M : Type 1} → statement M
-outcome-of-spec =
+pub handle-spec : {M : Type 1} → statement M
+handle-spec =
     tie.close
     (tie.spec
     enum-known-event
