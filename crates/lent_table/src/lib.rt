@@ -10,13 +10,13 @@ use model::Plan;
 use numbers::answer_number;
 
 // The answer to an event, whether the table is written, and the table that is then written.
-pub struct Decision {
-    pub answer: Answer,
-    pub writes: bool,
-    pub table: Table,
+struct Decision {
+    answer: Answer,
+    writes: bool,
+    table: Table,
 }
 
-pub(crate) fn decided(table: Table, plan: Plan, event: Event) -> Decision
+fn decided(table: Table, plan: Plan, event: Event) -> Decision
     ensures { λ r. ⌜ r ≡ decision plan table event ⌝ }
 {
     let outcome = table.handle(plan, event);

@@ -6,6 +6,7 @@ use mathlib.Core.Path.{_≡_}
 use denote.Ref.{RefT, now}
 use Rattle.plan_text.specs.Lines.{Line}
 use Rattle.plan_text.specs.LineReading.{placeFrom, lineFrom}
+use Rattle.plan_text.specs.TextParts.{IsPart}
 use Rattle.line_reader.specs.declared.LineReader.{LineReader}
 use Rattle.line_reader.specs.declared.TextLine.{TextLine}
 
@@ -14,7 +15,7 @@ pub record Read : Type 0 where
   pub line : Line
   pub over : Bool
 
--- what the values of a line say, whichever part of memory holds its bytes
+-- what the values of a line say
 abbrev pub readOf : TextLine → Read
 readOf l = record { line = record { bytes = now (l .bytes); ended = l .ended }; over = l .over }
 
@@ -28,6 +29,12 @@ readNext r = let text = now (r .text) in record { line = lineFrom text (r .at); 
 
 abbrev pub readOn : LineReader → LineReader
 readOn r = record { text = r .text; at = placeFrom (now (r .text)) (r .at) .next }
+
+-- what `next` does: it says what is read next, in a line that is a part of the held text, and leaves the reader behind that line
+pub record Reads (before : LineReader) (l : TextLine) (after : LineReader) : Type 0 where
+  pub said : readOf l ≡ readNext before
+  pub part : IsPart (before .text) (before .at) (placeFrom (now (before .text)) (before .at) .end) (l .bytes)
+  pub moved : after ≡ readOn before
 
 -- read on until its text is at its end, the reader has read these lines
 pub data ReadToEnd : LineReader → List Line → Type 0 where

@@ -1,7 +1,7 @@
 // The line reader: it keeps a reference to a text and its position in it. Its functions take it apart and call those of
 // `text_lines`, which are covered; they themselves are proved by hand.
 ghost use mathlib.Core.Path.{_≡_};
-ghost use Rattle.line_reader.specs.LineReads.{readOf, atStart, readNext, readOn};
+ghost use Rattle.line_reader.specs.LineReads.{atStart, Reads};
 use text_lines::line_at;
 use text_lines::part_of;
 
@@ -26,7 +26,7 @@ impl<'a> LineReader<'a> {
 
     // The next line. At the end of the text there is none, and the reader stays there.
     pub fn next<'s>(&'s mut self) -> TextLine<'a>
-        ensures { λ r. ⌜ (readOf r ≡ readNext (now (self .entry))) × (now (self .exit) ≡ readOn (now (self .entry))) ⌝ }
+        ensures { λ r. ⌜ Reads (now (self .entry)) r (now (self .exit)) ⌝ }
     {
         let text = self.text;
         let at = self.at;

@@ -8,7 +8,7 @@ use mathlib.Core.Logic.{⊎-elim}
 use mathlib.Core.Path.{_≡_, refl, sym, ap, _∙_}
 use lib.Dec.{ltb, leb}
 use lib.ListN.{length, take, drop, drop-of-length-le}
-use borrow.Author.Tests.{lt-ltb, le-ltb, le-leb, lt-leb, ltb-false}
+use borrow.Author.Tests.{lt-ltb, le-ltb, le-leb, lt-leb, ltb-false, leb-true, leb-false}
 use Rattle.bytes.specs.Bytes.{slice, indexOf}
 use Rattle.model.proofs.Decide.{decided, decides-lt}
 use Rattle.plan_text.specs.Lines.{Line, lineEnd, linesOf}
@@ -62,25 +62,6 @@ module _ (text : List ℕ) (at : ℕ) where
   abbrev searched : ℕ
   searched = at + indexOf lineEnd (slice at (length text) text)
 
-  -- the text is at its end exactly where nothing is left
-  pub over-told : placeFrom text at .over ≡ true → length text ≤ at
-  over-told e =
-      ⊎-elim (λ (h : at < length text). absurd (differ (sym (ap (λ (p : LinePlace). p .over) (place-there searched refl h)) ∙ e)))
-      (λ (h : ¬ (at < length text)). omega arith)
-      (decided (decides-lt at (length text)))
-    where
-      differ : false ≡ true → ⊥
-      differ z = let y : _≡_ {A = ℕ} 0 1 = cc in omega arith
-
-  pub left-told : placeFrom text at .over ≡ false → at < length text
-  left-told e =
-      ⊎-elim (λ (h : at < length text). h)
-      (λ (h : ¬ (at < length text)). absurd (differ (sym (ap (λ (p : LinePlace). p .over) (place-over (omega arith))) ∙ e)))
-      (decided (decides-lt at (length text)))
-    where
-      differ : true ≡ false → ⊥
-      differ z = let y : _≡_ {A = ℕ} 0 1 = cc in omega arith
-
   -- all is told by where the line ends
   pub place-by-end : let end = placeFrom text at .end in
       placeFrom text at ≡ record { end = end; next = cond (ltb end (length text)) (end + 1) end; ended = ltb end (length text); over = leb (length text) at }
@@ -91,6 +72,16 @@ module _ (text : List ℕ) (at : ℕ) where
       (λ (h : ¬ (at < length text)).
       rw (le-leb (length text) at (omega arith), place-over (omega arith), le-ltb at (length text) (omega arith)) refl)
       (decided (decides-lt at (length text)))
+
+  -- the text is at its end exactly where nothing is left
+  over-by-end : placeFrom text at .over ≡ leb (length text) at
+  over-by-end = ap (λ (p : LinePlace). p .over) place-by-end
+
+  pub over-told : placeFrom text at .over ≡ true → length text ≤ at
+  over-told e = leb-true (length text) at (sym over-by-end ∙ e)
+
+  pub left-told : placeFrom text at .over ≡ false → at < length text
+  left-told e = leb-false (length text) at (sym over-by-end ∙ e)
 
 -- for whoever has where a line ends, while something is left: a search for the next LF ends there, within the text
 module _ (text : List ℕ) (at end : ℕ) (e : end ≡ placeFrom text at .end) (there : at < length text) where

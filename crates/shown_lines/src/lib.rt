@@ -1,13 +1,12 @@
 // The line that a refusal is about, as a part of the caller's own text.
-ghost use mathlib.Core.Path.{_≡_};
-ghost use Rattle.plan_text.specs.TextQuestions.{shownIn};
+ghost use Rattle.plan_text.specs.TextParts.{IsShown};
 ghost use Rattle.plan_text.specs.Reading.{reading};
 use reader::read;
 use text_lines::part_of;
 
 // The line that a refusal is about, as a part of the text; empty where it is about none.
 pub fn shown_line(text: &[u8]) -> &[u8]
-    ensures { λ r. ⌜ now r ≡ shownIn (now (text .entry)) (reading (now (text .entry))) ⌝ }
+    ensures { λ r. ⌜ IsShown (text .entry) (reading (now (text .entry))) r ⌝ }
 {
     let reading = read(text);
     let from = reading.from;

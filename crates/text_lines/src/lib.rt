@@ -1,8 +1,8 @@
 // The lines of a text, found in this one place: where the line that begins at a place ends, and a part of a text.
 ghost use mathlib.Core.Path.{_≡_};
-ghost use Prim.Native.Nat.{_-_, min};
-ghost use lib.ListN.{take, drop};
+ghost use Prim.Native.Nat.{min};
 ghost use Rattle.plan_text.specs.LineReading.{placeFrom};
+ghost use Rattle.plan_text.specs.TextParts.{IsPart};
 use bytes::scan::find;
 use plan_text::LinePlace;
 
@@ -39,11 +39,9 @@ fn at_most(n: usize, limit: usize) -> usize
 
 // A part of the text, from one place up to another; what lies beyond the text is left out.
 pub fn part_of(text: &[u8], from: usize, to: usize) -> &[u8]
-    ensures { λ r. ⌜ now r ≡ take (to - from) (drop from (now (text .entry))) ⌝ }
+    ensures { λ r. ⌜ IsPart (text .entry) from to r ⌝ }
 {
     let end = at_most(to, text.len());
-    if end < from {
-        return &text[0..0];
-    }
-    &text[from..end]
+    let start = at_most(from, end);
+    &text[start..end]
 }

@@ -90,7 +90,8 @@ use Rattle.host_runs.proofs.answer_lines.Statement as stated
 use Rattle.host_runs.proofs.answer_lines.Code as code
 use Rattle.host_runs.proofs.answer_lines.Proof.LentReader.{α, B, Lies, LineOwn, Said, v, Own, New, Next, nearer, lies-in, lies-room}
 use Rattle.host_runs.proofs.answer_lines.Proof.LentReader.{to-new, goes-new, new-gives, to-next, Kept, goes-next, comes}
-use Rattle.host_runs.proofs.answer_lines.Proof.LentTable.{table-val, plan-val, IsTable, IsPlan, at-table, at-event, at-answer}
+use Rattle.lent_table.proofs.MachineValues.{table-val, plan-val, IsTable, IsPlan}
+use Rattle.host_runs.proofs.answer_lines.Proof.LentTable.{at-table, at-event, at-answer}
 use Rattle.host_runs.proofs.answer_lines.Proof.LentTable.{Empty, Apply, to-empty, goes-empty, empty-gives, to-apply, TableKept, goes-apply, apply-gives}
 use Rattle.host_runs.proofs.answer_lines.Proof.Passed.{EventIn, Tell, line-twice, to-event, goes-event, event-gives, to-tell, goes-tell, tell-gives}
 

@@ -59,6 +59,7 @@ use Rattle.events.proofs.Answer as R
 use Rattle.events.proofs.Answer.Laws as R′
 use Rattle.admission.proofs.Table as T
 use Rattle.admission.proofs.Table.Laws as T′
+use Rattle.lent_table.proofs.MachineValues.{table-val, plan-val, event-val, answer-val, IsTable, IsPlan, IsEvent, IsAnswer}
 use Rattle.lent_table.proofs.Decision as D
 use Rattle.lent_table.proofs.Decision.Laws as D′
 use Rattle.lent_table.proofs.decided as decided
@@ -88,33 +89,9 @@ left p h e r is n = λ i. both (is i .answer) (tableOf (sym (list-refused p (h .
     refused : isAdmitted (answer p (h .list) e) ≡ false
     refused = sym (ap (λ (d : Decision). d .writes) is) ∙ is-false (r .writes) n
 
--- ---- the machine values, and what their relations show
-abbrev table-val : Table → Val
-table-val = LL.val T.the-type T′.the-laws
-
-abbrev plan-val : Plan → Val
-plan-val = LL.val P.the-type P′.the-laws
-
-abbrev event-val : Event → Val
-event-val = EL.val E.the-type E′.the-laws
-
-abbrev answer-val : Answer → Val
-answer-val = EL.val R.the-type R′.the-laws
-
+-- the machine value of what `decided` says
 abbrev decision-val : Decision → Val
 decision-val = LL.val D.the-type D′.the-laws
-
-abbrev IsTable : Table → Type 0
-IsTable t = Is T.the-row t (table-val t ∷ [])
-
-abbrev IsPlan : Plan → Type 0
-IsPlan p = Is P.the-row p (plan-val p ∷ [])
-
-abbrev IsEvent : Event → Type 0
-IsEvent e = Is E.the-row e (event-val e ∷ [])
-
-abbrev IsAnswer : Answer → Type 0
-IsAnswer a = Is R.the-row a (answer-val a ∷ [])
 
 abbrev stayed : Stays (f.ended .signature .params) (f.ended .kept)
 stayed = (stay-ref (0 ∷ []) tt (plain (λ _. T.the-row)), (stay-none (λ _. P.the-row) yes, (stay-none (λ _. E.the-row) yes, tt)))

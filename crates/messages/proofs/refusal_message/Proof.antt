@@ -52,7 +52,7 @@ module _ (c : tie.After-text-number) where
   r = c .before .read .result
 
   plan-told : now (text-there .part-of2 .result) ≡ planPart input
-  plan-told = plan-taken input (text-there .before .plan-length .ensures) (text-there .part-of2 .ensures)
+  plan-told = plan-taken input (text-there .before .plan-length .ensures) (text-there .part-of2 .ensures .bytes)
 
   read-told : reading (planPart input) ≡ r
   read-told = sym (c .before .read .ensures ∙ ap reading plan-told)
@@ -75,7 +75,7 @@ returns c =
     let part = put .before .before in
     let asked = part .before in
     let a = asked .before .before .before .args in
-    put-as 0 (now (a .space)) (ap (messageWith 0 TooLong) (part .part-of .ensures) ∙ too-long (now (a .input)) (asked .if1 .taken)) (put .put-message .ensures)
+    put-as 0 (now (a .space)) (ap (messageWith 0 TooLong) (part .part-of .ensures .bytes) ∙ too-long (now (a .input)) (asked .if1 .taken)) (put .put-message .ensures)
 
 plan-length-requires : tie.Need-plan-length-requires
 plan-length-requires c κs = search needs
@@ -111,7 +111,7 @@ returns-3 c =
     let part = put .before .before in
     let n = part .before .before in
     let refused = ne-eqb (textNumber (r n .answer)) 0 (λ e. part .before .if2 .left (n .text-number .ensures ∙ e)) in
-    let shown = part .part-of3 .ensures ∙ ap (λ text. shownIn text (r n)) (plan-told n) in
+    let shown = part .part-of3 .ensures .bytes ∙ ap (λ text. shownIn text (r n)) (plan-told n) in
     put-as 0 (now (start n .args .space)) (ap (messageWith (r n .line) (r n .answer)) shown ∙ refusal-said (input n) (r n) (short n) (read-told n) refused)
     (put .put-message2 .ensures)
 

@@ -1,5 +1,5 @@
 -- The lines about the plan are put, and those of the events behind them.
-use Prim.Native.Nat.{ℕ, _+_, _≤_, _<_}
+use Prim.Native.Nat.{ℕ, _+_, _≤_}
 use native.Mathlib.Omega.{arith}
 use mathlib.Core.List.{List, _++_}
 use mathlib.Core.Path.{_≡_, sym, ap, _∙_}
@@ -10,7 +10,7 @@ use Rattle.events.specs.JobList.{emptyList}
 use Rattle.plan_text.specs.Reading.{reading}
 use Rattle.moves_text.specs.Division.{planLength, planPart, eventPart}
 use Rattle.moves_text.specs.OutputLines.{aboutPlan, aboutText}
-use Rattle.moves_text.specs.Output.{toPrint, output}
+use Rattle.moves_text.specs.Output.{toPrint}
 use Rattle.moves_text.specs.Space.{overlaid}
 use Rattle.moves_text.proofs.CountedFew.{plan-within}
 use Rattle.moves_text.proofs.Enough.{about-short}
@@ -34,7 +34,7 @@ module _ (c : tie.After-read) where
   short = ended .before .if1 .left
 
   plan-told : now (lent .part-of .result) ≡ planPart input
-  plan-told = plan-lent input (now (lent .part-of .result)) (ended .plan-length .result) (ended .plan-length .ensures) (lent .part-of .ensures)
+  plan-told = plan-lent input (now (lent .part-of .result)) (ended .plan-length .result) (ended .plan-length .ensures) (lent .part-of .ensures .bytes)
 
   read-told : c .read .result ≡ reading (planPart input)
   read-told = c .read .ensures ∙ ap reading plan-told
@@ -57,7 +57,7 @@ module _ (c : tie.After-part-of2) where
   r = done (c .before .before .before)
 
   events-told : now (c .part-of2 .result) ≡ eventPart (input r)
-  events-told = events-lent (input r) (now (c .part-of2 .result)) (ended r .plan-length .result) (ended r .plan-length .ensures) (c .part-of2 .ensures)
+  events-told = events-lent (input r) (now (c .part-of2 .result)) (ended r .plan-length .result) (ended r .plan-length .ensures) (c .part-of2 .ensures .bytes)
 
 put-plan-line-requires : tie.Need-put-plan-line-requires
 put-plan-line-requires c κs = search needs

@@ -40,7 +40,7 @@ use denote.Struct.Steps.{spelt}
 use denote.Triple.Statement.{Contract}
 use denote.Triple.Clauses.{ensured, lasts}
 use denote.Triple.Spec.{tripleOf}
-use Rattle.line_reader.specs.LineReads.{Read, readOf, readNext, readOn, atStart}
+use Rattle.line_reader.specs.LineReads.{Read, Reads, readOf, readNext, readOn, atStart}
 use Rattle.line_reader.proofs.ToEnd.{less-left}
 use Rattle.line_reader.specs.declared.LineReader.{LineReader}
 use Rattle.line_reader.specs.declared.TextLine.{TextLine}
@@ -178,21 +178,18 @@ module _ {M : Type 1} (𝓤 : URA M) (H : Heap 𝓤) (A : Atoms 𝓤) (W : Given
     abbrev Came : Val → TextLine → SProp 𝓤
     Came u l = guard 𝓤 (Said d l) (sep 𝓤 (sem 𝓤 H A (LineOwn κ l u)) (sep 𝓤 (sem 𝓤 H A (Lies κ b o (readOn d))) (A .lft κ q)))
 
-    abbrev AllSaid : TextLine → LineReader → Type 0
-    AllSaid l y = Said d l × (y ≡ readOn d)
-
     pub comes : (ν : ℕ) (γ : GName) (u : Val)
         → ent 𝓤 (sep 𝓤 (Next 𝓤 H A at-mem run .post (to-next ν γ) u) (Kept ν γ)) (H .⇛ (ex 𝓤 (λ (l : TextLine). Came u l)))
     comes ν γ u =
         qed W (raw (Next 𝓤 H A at-mem run .post (to-next ν γ) u) ∷ (‵ (flent (ν ∷ κ) (Body (mem (B κ)) b o γ)) ⊛ raw (Rest 𝓤 H A W ν q₁)) ∷ []) ∵ updating ! $
         use1 W (later (some (λ (l : TextLine). ((‵ (flft (ν ∷ κ) q₁) ⊛ ‵ (flft κ q₂) ⊛ ‵ ftrue) ⊛ ‵ (LineOwn κ l u))
-        ⊛ some (λ (ws : LineReader × Unit {0}). ‵ (lasts next.ended (ν ∷ κ, (κ, tt)) (ref γ, tt) ws) ⊛ raw (fact 𝓤 (AllSaid l (ws .0))))))) (id⊢ 𝓤 _) $ await ! tt $
-        pick ! (λ l. split ! $ move ! (1 ∷ []) $ pick ! (λ ws. split ! $ move ! (1 ∷ []) $ heard ! (AllSaid l (ws .0)) (λ e.
+        ⊛ some (λ (ws : LineReader × Unit {0}). ‵ (lasts next.ended (ν ∷ κ, (κ, tt)) (ref γ, tt) ws) ⊛ raw (fact 𝓤 (Reads d l (ws .0))))))) (id⊢ 𝓤 _) $ await ! tt $
+        pick ! (λ l. split ! $ move ! (1 ∷ []) $ pick ! (λ ws. split ! $ move ! (1 ∷ []) $ heard ! (Reads d l (ws .0)) (λ e.
         -- [what is said of the last reader; the tokens and what the line owns; what the lender kept]
-        fsplit ! $ rewrite ! 0 (λ (y : LineReader). ‵ (fres γ (B κ .coded .code y))) (e .1) refl $ move ! (2 ∷ []) $ split ! $ split ! $ move ! (1 ∷ []) $ split ! $
+        fsplit ! $ rewrite ! 0 (λ (y : LineReader). ‵ (fres γ (B κ .coded .code y))) (e .moved) refl $ move ! (2 ∷ []) $ split ! $ split ! $ move ! (1 ∷ []) $ split ! $
         -- [the half of 'a's; …; the meet's token; what the line owns; the last reader; …; what the lender kept]
         move ! (6 ∷ []) $ split ! $ move ! (4 ∷ 1 ∷ []) $ use2 W (later (‵ (fdead (ν ∷ κ)) ⊛ ‵ (flft κ q₁))) (within-end 𝓤 H A W ν κ q₁) $ await ! tt $ split ! $
         move ! (1 ∷ 3 ∷ []) $ use2 W (‵ (flft κ q)) (W .lfts .lft-join κ q) $
         -- ['a's token; that the meet is dead; the lender's right; …; what the line owns; the last reader; …]
         move ! (1 ∷ 2 ∷ 5 ∷ []) $ use3 W (later (‵ (Lies κ b o (readOn d)))) (ref-back 𝓤 H A W (B κ) (ν ∷ κ) γ (readOn d) b o) $ await ! tt $
-        at-once ! $ show ! (Came u) l $ check ! (e .0) $ keep ! (3 ∷ 0 ∷ 1 ∷ []) $ done !)))
+        at-once ! $ show ! (Came u) l $ check ! (e .said) $ keep ! (3 ∷ 0 ∷ 1 ∷ []) $ done !)))

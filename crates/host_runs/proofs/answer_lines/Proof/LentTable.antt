@@ -35,6 +35,7 @@ use Rattle.model.specs.declared.Plan.{Plan}
 use Rattle.events.specs.declared.Event.{Event}
 use Rattle.events.specs.declared.Answer.{Answer}
 use Rattle.admission.specs.Table.{outcome}
+use Rattle.lent_table.proofs.MachineValues.{table-val, plan-val, event-val, IsTable, IsPlan, IsEvent, IsAnswer}
 use Rattle.admission.specs.declared.Table.{Table}
 use Rattle.admission.specs.declared.Outcome.{Outcome}
 use Rattle.model.proofs.Plan as P
@@ -47,31 +48,6 @@ use Rattle.admission.proofs.Table as T
 use Rattle.admission.proofs.Table.Laws as T′
 use Rattle.admission.proofs.Table.empty as empty
 use Rattle.lent_table.proofs.apply as apply
-
--- ---- the machine values, and what their relations show
-abbrev pub table-val : Table → Val
-table-val = LL.val T.the-type T′.the-laws
-
-abbrev pub plan-val : Plan → Val
-plan-val = LL.val P.the-type P′.the-laws
-
-abbrev pub event-val : Event → Val
-event-val = EL.val E.the-type E′.the-laws
-
-abbrev pub answer-val : Answer → Val
-answer-val = EL.val N.the-type N′.the-laws
-
-abbrev pub IsTable : Table → Type 0
-IsTable t = Is T.the-row t (table-val t ∷ [])
-
-abbrev pub IsPlan : Plan → Type 0
-IsPlan p = Is P.the-row p (plan-val p ∷ [])
-
-abbrev pub IsEvent : Event → Type 0
-IsEvent e = Is E.the-row e (event-val e ∷ [])
-
-abbrev pub IsAnswer : Answer → Type 0
-IsAnswer a = Is N.the-row a (answer-val a ∷ [])
 
 -- a value that a call gave is at its own machine value
 pub at-table : (t : Table) (u : Val) → Is T.the-row t (u ∷ []) → IsTable t

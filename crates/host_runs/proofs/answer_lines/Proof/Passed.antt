@@ -45,7 +45,7 @@ use Rattle.admission.proofs.Table.Laws as T′
 use Rattle.host_runs.proofs.event_in as event-in
 use Rattle.host_runs.proofs.tell as tell
 use Rattle.host_runs.proofs.answer_lines.Proof.LentReader.{α, LineOwn, v, Own}
-use Rattle.host_runs.proofs.answer_lines.Proof.LentTable.{table-val, answer-val, IsTable, IsAnswer}
+use Rattle.lent_table.proofs.MachineValues.{table-val, answer-val, IsTable, IsAnswer}
 
 module _ {M : Type 1} (𝓤 : URA M) (H : Heap 𝓤) (A : Atoms 𝓤) (at-mem : Memory → SProp 𝓤) (run : Routine → Fun 𝓤) where
   abbrev pub EventIn : Contract 𝓤

@@ -2,7 +2,7 @@
 -- the number is set to the next place, and the borrow is closed.
 -- The slice is Copy: what it owns is had three times, once for each call and once to close the borrow with.
 -- All that the proof knows of the two callees is that each meets its contract.
-use mathlib.Core.Path.{_≡_, refl, ap, _∙_}
+use mathlib.Core.Path.{_≡_, refl, ap, subst, _∙_}
 use Prim.Native.Nat.{ℕ, _-_, _<_, _^_}
 use mathlib.Core.List.{List, [], _∷_}
 use lib.ListN.{length, take, drop as dropped}
@@ -47,8 +47,9 @@ use denote.Triple.Spec.{Meets, tripleOf}
 use denote.Triple.Table.{entered, cited}
 use denote.Triple.Walked.{says, Stays, stay-ref, walkOf, goes-ref, Walks, ends-at, walked, walk-meets}
 use Rattle.plan_text.specs.LineReading.{placeFrom}
+use Rattle.plan_text.specs.TextParts.{IsPart}
 use Rattle.plan_text.specs.declared.LinePlace.{LinePlace}
-use Rattle.line_reader.specs.LineReads.{readOf, readNext, readOn}
+use Rattle.line_reader.specs.LineReads.{Reads}
 use Rattle.line_reader.specs.declared.LineReader.{LineReader}
 use Rattle.line_reader.specs.declared.TextLine.{TextLine}
 use Rattle.line_reader.proofs.LineReader as T
@@ -170,7 +171,7 @@ module _ {M : Type 1} (𝓤 : URA M) (H : Heap 𝓤) (A : Atoms 𝓤) (W : Given
       owned ! usize (Is usize) (uint-makes 𝓤 H A W w64) (h .at) _ (refl, fits) $ fjoin ! $ move ! (1 ∷ 0 ∷ []) $ fjoin ! $ move ! (1 ∷ 0 ∷ []) $ join ! $ frame ! $ done !
 
   abbrev PartSaid : LinePlace → RefT (List ℕ) → Type 0
-  PartSaid p r = now r ≡ take (p .end - h .at) (dropped (h .at) (now (h .text)))
+  PartSaid p r = IsPart (h .text) (h .at) (p .end) r
 
   part-said : (p : LinePlace) (r : RefT (List ℕ))
       → ent 𝓤 (ensured 𝓤 H A part-of.ended (part-of.clauses 𝓤 H A at-mem run) (κ′, tt) (h .text, (h .at, (p .end, tt))) tt r) (fact 𝓤 (PartSaid p r))
@@ -190,14 +191,15 @@ module _ {M : Type 1} (𝓤 : URA M) (H : Heap 𝓤) (A : Atoms 𝓤) (W : Given
 
   -- what the contract says, of what the callees said
   abbrev Said : TextLine → LineReader → Type 0
-  Said l d = (readOf l ≡ readNext h) × (d ≡ readOn h)
+  Said l d = Reads h l d
 
   said : (r : RefT (List ℕ)) (p : LinePlace) → p ≡ found → PartSaid p r → Said (lined r p) (moved (p .next))
-  said r p e e′ = (
-    ap (λ (bs : List ℕ). record { line = record { bytes = bs; ended = p .ended }; over = p .over }) e′
-        ∙ ap (λ (y : LinePlace). record { line = record { bytes = take (y .end - h .at) (dropped (h .at) (now (h .text))); ended = y .ended }; over = y .over }) e,
-    ap (λ (y : LinePlace). moved (y .next)) e,
-  )
+  said r p e e′ = record {
+    said = ap (λ (bs : List ℕ). record { line = record { bytes = bs; ended = p .ended }; over = p .over }) (e′ .bytes)
+        ∙ ap (λ (y : LinePlace). record { line = record { bytes = take (y .end - h .at) (dropped (h .at) (now (h .text))); ended = y .ended }; over = y .over }) e;
+    part = subst (λ (y : LinePlace). PartSaid y r) e e′;
+    moved = ap (λ (y : LinePlace). moved (y .next)) e;
+  }
 
   -- what is left at the end: what the line l owns, the borrow at the reader d, and the two tokens
   abbrev at-end : TextLine → LineReader → List (Item 𝓤)
