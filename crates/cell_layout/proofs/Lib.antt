@@ -1,0 +1,8 @@
+-- The laws of a cell in the bytes of a host. Read in this order.
+pub mod Cells
+pub mod Entries
+pub mod ReadBack
+pub mod PlanRead
+pub mod CheckFits
+pub mod HostAnswers
+pub mod HostRuns

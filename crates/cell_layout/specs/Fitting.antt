@@ -1,0 +1,31 @@
+-- Values that the bytes of a cell can hold: as many entries as there is room for, and each number in its bytes. Every plan and job list
+-- of the program fits.
+use Prim.Native.Nat.{ℕ, _<_}
+use mathlib.Core.Path.{_≡_}
+use lib.ListN.{length}
+use Rattle.model.specs.Limits.{maxResources, maxTypes, maxRows, maxAllStages, maxJobs}
+use Rattle.model.specs.Numbers.{Each}
+use Rattle.model.specs.declared.Stage.{Stage}
+use Rattle.model.specs.declared.Plan.{Plan}
+use Rattle.model.specs.declared.Job.{Job}
+use Rattle.events.specs.declared.JobList.{JobList}
+
+abbrev pub StageFits : Stage → Type 0
+StageFits s = (length (s .demand) ≡ maxResources) × (length (s .weight) ≡ maxRows)
+
+pub record PlanFits (p : Plan) : Type 0 where
+  pub capacity : length (p .capacity) ≡ maxResources
+  pub rank : length (p .rank) ≡ maxResources
+  pub rows : length (p .bound) ≡ maxRows
+  pub bounds : Each (λ (b : ℕ). b < 65536) (p .bound)
+  pub lengths : length (p .lengths) ≡ maxTypes
+  pub slots : length (p .stages) ≡ maxAllStages
+  pub stages : Each StageFits (p .stages)
+
+abbrev pub JobFits : Job → Type 0
+JobFits j = (j .number < 4294967296) × (j .kind < 4294967296) × (j .stage < 4294967296)
+
+pub record ListFits (l : JobList) : Type 0 where
+  pub count : l .count < 256
+  pub slots : length (l .jobs) ≡ maxJobs
+  pub jobs : Each JobFits (l .jobs)

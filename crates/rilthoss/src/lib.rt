@@ -1,0 +1,100 @@
+// The library that a host links: the whole run of `cellmoves`, and a cell that lives in the host's bytes. Every function takes any
+// bytes and any numbers; what a cell holds is asked at each call.
+ghost use mathlib.Core.Path.{_≡_};
+ghost use Prim.Native.Nat.{_≤_};
+ghost use Rattle.moves_text.specs.Output.{output};
+ghost use Rattle.moves_text.specs.Space.{filled, lengthFilled};
+ghost use Rattle.cell_layout.specs.HostAnswers.{packed, readAnswer, readCell, checkAnswer, eventAnswer, eventCell, drainAnswer, drainCell};
+use cell_events::drain_at;
+use cell_events::event_at;
+use cell_events::pack;
+use cell_reads::CELL;
+use cell_reads::plan_in;
+use cell_writes::put_plan;
+use events::Event;
+use plan_numbers::check_first;
+use plan_numbers::check_number;
+use plan_numbers::check_second;
+use plan_numbers::text_number;
+use reader::read;
+use upstream::upstream_check;
+use whole_run::answer_input;
+
+fn u32_to_u64(x: u32) -> u64
+    ensures { λ r. ⌜ (r ≡ x) × (r ≤ 4294967295) ⌝ }
+{
+    x as u64
+}
+
+// A number with two places, the check's alone: all other answers have one.
+fn pack_two(number: u32, first: u32, second: u32) -> u64
+    requires { ⌜ (number ≤ 65535) × (second ≤ 65535) ⌝ }
+    ensures { λ r. ⌜ r ≡ packed number first second ⌝ }
+{
+    u32_to_u64(number) + 65536 * u32_to_u64(second) + 4294967296 * u32_to_u64(first)
+}
+
+#[no_mangle]
+pub extern "C" fn rilthoss_load(cell: &mut [u8], job: u32, kind: u32) -> u64
+    ensures { λ r. ⌜ (r ≡ eventAnswer (now (cell .entry)) (Event.Load job kind)) × (now (cell .exit) ≡ eventCell (now (cell .entry)) (Event.Load job kind)) ⌝ }
+{
+    event_at(cell, Event::Load { job, kind })
+}
+
+#[no_mangle]
+pub extern "C" fn rilthoss_advance(cell: &mut [u8], job: u32) -> u64
+    ensures { λ r. ⌜ (r ≡ eventAnswer (now (cell .entry)) (Event.Advance job)) × (now (cell .exit) ≡ eventCell (now (cell .entry)) (Event.Advance job)) ⌝ }
+{
+    event_at(cell, Event::Advance(job))
+}
+
+#[no_mangle]
+pub extern "C" fn rilthoss_unload(cell: &mut [u8], job: u32) -> u64
+    ensures { λ r. ⌜ (r ≡ eventAnswer (now (cell .entry)) (Event.Unload job)) × (now (cell .exit) ≡ eventCell (now (cell .entry)) (Event.Unload job)) ⌝ }
+{
+    event_at(cell, Event::Unload(job))
+}
+
+#[no_mangle]
+pub extern "C" fn rilthoss_drain(cell: &mut [u8], budget: u32) -> u64
+    ensures { λ r. ⌜ (r ≡ drainAnswer (now (cell .entry)) budget) × (now (cell .exit) ≡ drainCell (now (cell .entry)) budget) ⌝ }
+{
+    drain_at(cell, budget)
+}
+
+// The plan of a text in place of the one that was there; a refused text gives the empty plan. The table stays.
+#[no_mangle]
+pub extern "C" fn rilthoss_read_plan(cell: &mut [u8], text: &[u8]) -> u64
+    ensures { λ r. ⌜ (r ≡ readAnswer (now (text .entry)) (now (cell .entry))) × (now (cell .exit) ≡ readCell (now (text .entry)) (now (cell .entry))) ⌝ }
+{
+    if cell.len() < CELL {
+        return 9;
+    }
+    let reading = read(text);
+    let answer = reading.answer;
+    put_plan(reading.plan, cell);
+    pack(text_number(answer), reading.line)
+}
+
+// The upstream check of the plan.
+#[no_mangle]
+pub extern "C" fn rilthoss_check(cell: &[u8]) -> u64
+    ensures { λ r. ⌜ r ≡ checkAnswer (now (cell .entry)) ⌝ }
+{
+    if cell.len() < CELL {
+        return 9;
+    }
+    let check = upstream_check(plan_in(cell));
+    let number = check_number(check);
+    let first = check_first(check);
+    let second = check_second(check);
+    pack_two(number, first, second)
+}
+
+// The whole run of `cellmoves`: the output then begins with what is printed, and the answer is its length; 0 where it does not fit.
+#[no_mangle]
+pub extern "C" fn rilthoss_run(input: &[u8], space: &mut [u8]) -> usize
+    ensures { λ r. ⌜ (r ≡ lengthFilled (output (now (input .entry))) (now (space .entry))) × (now (space .exit) ≡ filled (output (now (input .entry))) (now (space .entry))) ⌝ }
+{
+    answer_input(input, space)
+}
