@@ -22,17 +22,19 @@ use stages::length_of;
 use sums::kept_after;
 use sums::sums_of;
 
+// A flag in place of an early exit: only so does the compiler vectorise.
 fn none_equals(ns: &[u32], n: u32) -> bool
     ensures { λ r. ⌜ r ≡ each (λ (m : ℕ). not (eqb m n)) (now (ns .entry)) ⌝ }
 {
+    let mut ok = true;
     let mut i = 0;
     while i < ns.len() {
         if ns[i] == n {
-            return false;
+            ok = false;
         }
         i += 1;
     }
-    true
+    ok
 }
 
 // No number stands in the list twice: each is held against those after it.

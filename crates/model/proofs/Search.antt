@@ -1,12 +1,13 @@
 -- For loops over 1 to n, or over the entries of a list, that return at the first one that decides: `..-more` keeps the
 -- invariant over those passed, and `..-fails`, `..-holds` and `..-at` give the result at the one where the loop returns.
+-- `each-flag` is for loops that keep a flag to their end instead.
 use Prim.Native.Nat.{ℕ, zero, suc, _+_, _≤_, _<_}
 use native.Mathlib.Numerals.{add-one}
 use native.Mathlib.Omega.{arith}
-use mathlib.Core.Bool.{Bool, true, false, _&&_, and-false, or-true}
+use mathlib.Core.Bool.{Bool, true, false, _&&_, and-true, and-false, and-assoc, or-true}
 use mathlib.Core.List.{List}
 use mathlib.Core.Logic.{⊎-elim}
-use mathlib.Core.Path.{_≡_, refl, _∙_}
+use mathlib.Core.Path.{_≡_, refl, sym, _∙_}
 use lib.Dec.{leb}
 use lib.ListN.{length, drop, getD, drop-of-length-le}
 use lib.Seq.{drop-cons}
@@ -63,6 +64,14 @@ module _ {A : Type 0} (f : A → Bool) (xs : List A) where
 
   pub each-fails : (i : ℕ) (d : A) → i < length xs → f (getD xs i d) ≡ false → each f (drop i xs) ≡ false
   each-fails i d h k = each-here i d h ∙ rw k refl
+
+  -- of a loop that keeps a flag: the flag with what the entries from i on say
+  module _ {all : Bool} (flag : Bool) (i : ℕ) (said : all ≡ (flag && each f (drop i xs))) where
+    pub each-flag : (d : A) {next : Bool} → i < length xs → next ≡ (flag && f (getD xs i d)) → all ≡ (next && each f (drop (i + 1) xs))
+    each-flag d {next} h e = said ∙ rw (e, each-here i d h) (sym (and-assoc flag (f (getD xs i d)) (each f (drop (i + 1) xs))))
+
+    pub each-flag-end : length xs ≤ i → flag ≡ all
+    each-flag-end h = sym (said ∙ rw (each-end i h) (and-true flag))
 
 -- a test that is not run: each entry passes by its width
 pub all-small : (xs : List ℕ) (high n : ℕ) → ((i : ℕ) → getD xs i 0 ≤ high) → allTo n (λ (i : ℕ). leb (at xs i) high) ≡ true

@@ -1,2 +1,2 @@
--- The laws behind the code of the soundness test.
+-- The law behind the code of the soundness test.
 pub mod ZeroBeyond

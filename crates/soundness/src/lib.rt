@@ -3,7 +3,7 @@ ghost use mathlib.Core.Bool.{true, cond, _&&_};
 ghost use mathlib.Core.Path.{_≡_};
 ghost use Prim.Native.Nat.{ℕ, _≤_};
 ghost use lib.Dec.{leb};
-ghost use Rattle.model.specs.Numbers.{at, inRange, allTo, sumTo};
+ghost use Rattle.model.specs.Numbers.{at, inRange, allTo, someTo, sumTo};
 ghost use Rattle.model.specs.Soundness.{zeroBeyond, emptyStage, soundCounts, soundCapacities, soundRanks, soundLengths, soundBounds};
 ghost use Rattle.model.specs.Soundness.{soundStage, sound};
 use model::Plan;
@@ -15,31 +15,33 @@ fn u8_to_usize(x: u8) -> usize
     x as usize
 }
 
-// Only zeros beyond the first n.
+// Only zeros beyond the first n. A flag in place of an early exit, here and below: only so does the compiler vectorise.
 fn zero_beyond(xs: &[u8], n: usize) -> bool
     ensures { λ r. ⌜ r ≡ zeroBeyond n (now (xs .entry)) ⌝ }
 {
+    let mut ok = true;
     let mut i = n;
     while i < xs.len() {
         if xs[i] != 0 {
-            return false;
+            ok = false;
         }
         i += 1;
     }
-    true
+    ok
 }
 
 fn zero_bounds_beyond(xs: &[u16], n: usize) -> bool
     ensures { λ r. ⌜ r ≡ zeroBeyond n (now (xs .entry)) ⌝ }
 {
+    let mut ok = true;
     let mut i = n;
     while i < xs.len() {
         if xs[i] != 0 {
-            return false;
+            ok = false;
         }
         i += 1;
     }
-    true
+    ok
 }
 
 // Each of the first n is 1 to high.
@@ -47,18 +49,19 @@ fn all_in_range(xs: &[u8], n: usize, high: u8) -> bool
     requires { do ⌜ n ≤ (← ⟦xs.len()⟧) ⌝ }
     ensures { λ r. ⌜ r ≡ allTo n (λ (i : ℕ). inRange (at (now (xs .entry)) i) high) ⌝ }
 {
+    let mut ok = true;
     let mut i = 0;
     while i < n {
         let x = xs[i];
         if x < 1 {
-            return false;
+            ok = false;
         }
         if high < x {
-            return false;
+            ok = false;
         }
         i += 1;
     }
-    true
+    ok
 }
 
 // Each of the first n is at most its limit.
@@ -66,14 +69,31 @@ fn all_within(xs: &[u8; 32], limit: &[u8; 32], n: usize) -> bool
     requires { ⌜ n ≤ 32 ⌝ }
     ensures { λ r. ⌜ r ≡ allTo n (λ (i : ℕ). leb (at (now (xs .entry)) i) (at (now (limit .entry)) i)) ⌝ }
 {
+    let mut ok = true;
     let mut i = 0;
     while i < n {
         if limit[i] < xs[i] {
-            return false;
+            ok = false;
         }
         i += 1;
     }
-    true
+    ok
+}
+
+// Some of the first n is not 0. As many turns as there are resources: a loop of 32 would be unrolled and not vectorised.
+fn some_positive(xs: &[u8; 32], n: usize) -> bool
+    requires { ⌜ n ≤ 32 ⌝ }
+    ensures { λ r. ⌜ r ≡ someTo n (λ (i : ℕ). leb 1 (at (now (xs .entry)) i)) ⌝ }
+{
+    let mut some = false;
+    let mut i = 0;
+    while i < n {
+        if 1 <= xs[i] {
+            some = true;
+        }
+        i += 1;
+    }
+    some
 }
 
 // The stages of the first n types together.
@@ -126,13 +146,13 @@ fn sound_bounds(bound: &[u16], n: usize) -> bool
     zero_bounds_beyond(bound, n)
 }
 
-// With zeros beyond the resources, a demand that is not all zeros is one of some resource. A weight of 8 bits is in range.
+// A weight of 8 bits is in range.
 fn sound_stage(s: Stage, resources: usize, rows: usize, capacity: &[u8; 32]) -> bool
     requires { ⌜ (resources ≤ 32) × (rows ≤ 32) ⌝ }
     ensures { λ r. ⌜ r ≡ soundStage resources rows (now (capacity .entry)) s ⌝ }
 {
     all_within(&s.demand, capacity, resources)
-        && !zero_beyond(&s.demand, 0)
+        && some_positive(&s.demand, resources)
         && zero_beyond(&s.demand, resources)
         && zero_beyond(&s.weight, rows)
 }
