@@ -1,4 +1,5 @@
 -- The laws behind the code of the upstream check.
 pub mod Stages
 pub mod RowSearch
+pub mod TypeEnds
 pub mod RowWalk

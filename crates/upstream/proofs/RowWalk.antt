@@ -2,23 +2,22 @@
 -- from its own demands and from what the stage after it is upstream of.
 use Prim.Native.Nat.{ℕ, zero, suc, _+_, _-_, _≤_, _<_}
 use native.Mathlib.Nat.{le-refl}
-use native.Mathlib.Numerals.{sub-one}
 use native.Mathlib.Omega.{arith}
-use mathlib.Core.Bool.{Bool, true, false, cond, _&&_, _||_}
+use mathlib.Core.Bool.{Bool, true, false, cond, _&&_, _||_, and-false, or-false}
 use mathlib.Core.Logic.{_⊎_, inl, inr, ⊎-elim}
-use mathlib.Core.Path.{_≡_, refl, sym, subst, _∙_}
-use Rattle.model.specs.Numbers.{InRange, sumTo}
-use Rattle.model.specs.Plan.{lengthOf, IsStage, allStages, stageOf, demandOf, weightOf, Demands}
-use Rattle.model.specs.Soundness.{Sound}
+use mathlib.Core.Path.{_≡_, refl, sym, subst}
+use borrow.Author.Tests.{lt-leb, eq-eqb, ne-eqb}
+use Rattle.model.specs.Numbers.{InRange, at, sumTo}
+use Rattle.model.specs.Plan.{rankOf, lengthOf, IsStage, allStages, stageOf, demandOf, weightOf, Demands}
 use Rattle.model.specs.Upstream.{RankedUpTo, UpstreamOf, demands, rankedUpTo, upstreamOf, upstreamRow}
 use Rattle.model.specs.declared.Plan.{Plan}
 use Rattle.model.proofs.Decide.{Decides, holding, failing, passes, decided, decides-iff, decides-or, _and_, decides-le, decides-eq}
 use Rattle.model.proofs.Flat.{flatIndex, index-of-stage, one-at-index}
 use Rattle.model.proofs.Soundness.{decides-stages}
 use Rattle.model.proofs.Upstream.{decides-ranked-up-to, decides-upstream}
-use Rattle.upstream_rows.specs.Due.{dueBy}
-use Rattle.upstream.specs.Parts.{Stands}
-use Rattle.upstream.specs.declared.position.Position.{Position}
+use Rattle.upstream_rows.specs.Due.{noRank, dueBy}
+use Rattle.upstream_rows.proofs.Ranked.{lowest-ranked}
+use Rattle.upstream.specs.Parts.{stretchRank}
 
 -- two tests that decide the same are the same
 same-test : {P : Type 0} {a b : Bool} → Decides P a → Decides P b → a ≡ b
@@ -65,8 +64,43 @@ module _ (p : Plan) (r t : ℕ) where
       (decides-iff (upstream-up k h) (upstream-down k) (decides-or (decides-le 1 (demandOf p r t k)) later))
 
   -- no stage is left after the last
-  upstream-after : upstreamOf p r t (suc (lengthOf p t)) ≡ false
-  upstream-after = same-test (decides-upstream p r t (suc (lengthOf p t)) (omega arith)) (failing (λ u. omega (arith, u .from, u .within)))
+  upstream-after : (k : ℕ) → lengthOf p t ≤ k → upstreamOf p r t (suc k) ≡ false
+  upstream-after k last = same-test (decides-upstream p r t (suc k) (omega arith)) (failing (λ u. omega (arith, u .from, u .within)))
+
+-- the stage at index i, counted from 0
+pub record Next (p : Plan) (i : ℕ) : Type 0 where
+  pub t : ℕ
+  pub k : ℕ
+  pub stage : IsStage p t k
+  pub here : i + 1 ≡ flatIndex (lengthOf p) t k
+
+module _ (p : Plan) (i : ℕ) where
+  stage-of : (n : ℕ) → n ≤ p .types → i < sumTo n (lengthOf p) → Next p i
+  stage-of zero low more = absurd (omega arith)
+  stage-of (suc n) low more =
+      ⊎-elim (λ (h : suc i ≤ sumTo n (lengthOf p)). stage-of n (omega arith) h)
+      (λ (h : ¬ (suc i ≤ sumTo n (lengthOf p))).
+      let before : suc n - 1 ≡ n = omega arith in
+      record {
+        t = suc n;
+        k = suc i - sumTo n (lengthOf p);
+        stage = ((omega arith, low), (omega arith, omega arith));
+        here = rw before (omega arith);
+      })
+      (decided (decides-le (suc i) (sumTo n (lengthOf p))))
+
+  pub next-stage : i < allStages p → Next p i
+  unfolding allStages
+  next-stage more = stage-of (p .types) (le-refl (p .types)) more
+
+-- by the stage's own demand, and by what is due to the stage after it; to a type's last stage, by its own demand alone
+due-of : (a b c : Bool) (later : ℕ) → later ≡ cond c 1 0 → cond (a || (b && c)) 1 0 ≡ cond a 1 (cond b later 0)
+due-of true b c later e = refl
+due-of false true c later e = sym e
+due-of false false c later e = refl
+
+due-last : (a b : Bool) → _≡_ {A = ℕ} (cond (a || (b && false)) 1 0) (cond a 1 0)
+due-last a b = rw (and-false, or-false) refl
 
 -- the weight due to stage k of type t in row r, and that it is right
 abbrev pub dueTo : Plan → ℕ → ℕ → ℕ → ℕ
@@ -89,14 +123,6 @@ module _ (p : Plan) (r : ℕ) where
     pub seen : (t k : ℕ) → IsStage p t k → index < flatIndex (lengthOf p) t k → Right p r t k
     pub due-is : (t k : ℕ) → IsStage p t k → flatIndex (lengthOf p) t k ≡ suc index → due ≡ dueTo p r t k
 
-  -- the stage to be seen next, at index i; `later` is due to the stage of its type after it
-  pub record Next (i later : ℕ) : Type 0 where
-    pub t : ℕ
-    pub k : ℕ
-    pub stage : IsStage p t k
-    pub here : i + 1 ≡ flatIndex (lengthOf p) t k
-    pub later-is : later ≡ dueTo p r t (suc k)
-
   pub walk-starts : Walk (allStages p) 0
   walk-starts =
       record {
@@ -108,66 +134,27 @@ module _ (p : Plan) (r : ℕ) where
   pub walk-ends : {due : ℕ} → Walk 0 due → upstreamRow p r ≡ true
   walk-ends w = passes decides-row (λ t k h. w .seen t k h (index-of-stage p t k h .0))
 
-  sum-last : (f : ℕ → ℕ) (n : ℕ) → 1 ≤ n → sumTo n f ≡ sumTo (n - 1) f + f n
-  sum-last f zero h = absurd (omega arith)
-  sum-last f (suc n) h = rw sub-one refl
+  -- what is due to the next stage
+  module _ {i due : ℕ} (w : Walk (suc i) due) (n : Next p i) where
+    later-is : n .k < lengthOf p (n .t) → due ≡ dueTo p r (n .t) (suc (n .k))
+    later-is more = w .due-is (n .t) (suc (n .k)) (n .stage .0, (omega arith, more)) (omega (arith, n .here))
 
-  -- the next stage by the position of the one seen last: the one before it in its type, or the last of the type before
-  module _ (sound : Sound p) {i due : ℕ} (w : Walk (suc i) due) (a : Position) (at : Stands (p .lengths) (p .types) (suc i) a) where
-    indexed : suc i ≡ sumTo (a .kind) (lengthOf p) + a .stage
-    indexed = at .indexed
-
-    pub next-type : a .stage ≡ 0 → Next i 0
-    next-type e =
-        let some : 1 ≤ a .kind = kind-some (a .kind) (indexed ∙ omega arith) in
-        let long = sound .lengths (a .kind) (some, at .of-type) .0 in
-        record {
-          t = a .kind;
-          k = lengthOf p (a .kind);
-          stage = ((some, at .of-type), (long, le-refl (lengthOf p (a .kind))));
-          here = omega (arith, indexed, sum-last (lengthOf p) (a .kind) some);
-          later-is = rw (upstream-after p r (a .kind)) refl;
-        }
-      where
-        kind-some : (n : ℕ) → suc i ≡ sumTo n (lengthOf p) → 1 ≤ n
-        kind-some zero g = absurd (omega arith)
-        kind-some (suc n) g = omega arith
-
-    pub next-stage : (¬ (a .stage ≡ 0)) → Next i due
-    unfolding allStages
-    next-stage ne =
-        let first : suc (a .kind) - 1 ≡ a .kind = omega arith in
-        let more : a .stage < lengthOf p (suc (a .kind)) = at .of-stage of-type in
-        record {
-          t = suc (a .kind);
-          k = a .stage;
-          stage = ((omega arith, of-type), (omega arith, omega arith));
-          here = rw first (omega (arith, indexed));
-          later-is = w .due-is (suc (a .kind)) (suc (a .stage)) ((omega arith, of-type), (omega arith, more)) (rw first (omega (arith, indexed)));
-        }
-      where
-        of-type : a .kind < p .types
-        of-type =
-            ⊎-elim (λ (l : suc (a .kind) ≤ p .types). l)
-            (λ (l : ¬ (suc (a .kind) ≤ p .types)).
-            let all : a .kind ≡ p .types = omega (arith, at .of-type) in
-            absurd (omega (arith, w .within, rw all at indexed)))
-            (decided (decides-le (suc (a .kind)) (p .types)))
-
-  due-of : (a b c : Bool) (later : ℕ) → later ≡ cond c 1 0 → cond (a || (b && c)) 1 0 ≡ cond a 1 (cond b later 0)
-  due-of true b c later e = refl
-  due-of false true c later e = sym e
-  due-of false false c later e = refl
-
-  module _ {i later : ℕ} (n : Next i later) where
-    pub next-due : dueTo p r (n .t) (n .k) ≡ dueBy (p .resources) (stageOf p (n .t) (n .k) .demand) (p .rank) r later
+    pub next-due : rankOf p r < noRank
+        → dueTo p r (n .t) (n .k) ≡ dueBy (demandOf p r (n .t) (n .k)) (stretchRank p (n .t) (n .k)) (rankOf p r) due
     unfolding rankedUpTo demandOf
-    next-due =
-        rw (upstream-here p r (n .t) (n .k) (n .stage .1))
-        (due-of (demands p (n .t) (n .k) r) (rankedUpTo p r (n .t) (n .k)) (upstreamOf p r (n .t) (suc (n .k))) later (n .later-is))
+    next-due low =
+        rw (upstream-here p r (n .t) (n .k) (n .stage .1)) (
+        ⊎-elim
+        (λ (e : n .k ≡ lengthOf p (n .t)).
+        rw (eq-eqb _ _ e, lt-leb noRank (rankOf p r) low, upstream-after p r (n .t) (n .k) (omega (arith, e)))
+        (due-last (demands p (n .t) (n .k) r) (rankedUpTo p r (n .t) (n .k))))
+        (λ (ne : ¬ (n .k ≡ lengthOf p (n .t))).
+        rw (ne-eqb _ _ ne, lowest-ranked (rankOf p r) low (p .resources) (stageOf p (n .t) (n .k) .demand) (p .rank))
+        (due-of (demands p (n .t) (n .k) r) (rankedUpTo p r (n .t) (n .k)) _ due (later-is (omega (arith, n .stage .1)))))
+        (decided (decides-eq (n .k) (lengthOf p (n .t)))))
 
-    pub walk-on : {due here : ℕ} → Walk (suc i) due → here ≡ dueTo p r (n .t) (n .k) → Right p r (n .t) (n .k) → Walk i here
-    walk-on {here} w due right =
+    pub walk-on : {here : ℕ} → here ≡ dueTo p r (n .t) (n .k) → Right p r (n .t) (n .k) → Walk i here
+    walk-on {here} due right =
         record {
           within = omega (arith, w .within);
           seen =

@@ -6,25 +6,29 @@ ghost use Rattle.model.specs.Questions.{answerOf};
 ghost use Rattle.model.specs.Soundness.{Sound};
 ghost use Rattle.model.specs.Upstream.{checkQuestions, check};
 ghost use Rattle.model.specs.declared.Check.the-variants.{Meets};
+ghost use Rattle.upstream.specs.Parts.{LowestRanks};
 use crate::position::position_of;
 use crate::position::u8_to_usize;
+use crate::ranks::closed;
 use crate::rows::faulty_bound;
 use crate::rows::faulty_row;
-use crate::units::first_other;
+use crate::units::units_of;
 use model::Check;
 use model::Plan;
 use soundness::is_sound;
 
 mod position;
+mod ranks;
 mod rows;
 mod units;
 
-// Questions 24 and 25. The plan's stages end at the index `end`.
-fn check_rows(p: Plan, end: usize) -> Check
-    requires { ⌜ Sound p × (end ≡ allStages p) ⌝ }
+// Questions 24 and 25. The plan's stages end at the index `end`, and have these lowest ranks.
+fn check_rows(p: Plan, end: usize, lowest: [u16; 128]) -> Check
+    requires { ⌜ Sound p × (end ≡ allStages p) × LowestRanks p end lowest ⌝ }
     ensures { λ r. ⌜ r ≡ answerOf Meets (drop 4 (checkQuestions p)) ⌝ }
 {
-    let weight_fault = faulty_row(p, end);
+    let ranks = closed(lowest, &p.lengths, u8_to_usize(p.types));
+    let weight_fault = faulty_row(p, end, ranks);
     let bound_fault = faulty_bound(&p.bound, &p.capacity, u8_to_usize(p.rows));
     if weight_fault != 0 {
         return Check::WrongWeight(weight_fault);
@@ -40,9 +44,9 @@ fn check_stages(p: Plan) -> Check
     requires { ⌜ Sound p ⌝ }
     ensures { λ r. ⌜ r ≡ answerOf Meets (drop 2 (checkQuestions p)) ⌝ }
 {
-    let index = first_other(p);
+    let units = units_of(p);
     let types = u8_to_usize(p.types);
-    let at = position_of(index, &p.lengths, types);
+    let at = position_of(units.other, &p.lengths, types);
     if at.kind < types {
         let kind = (at.kind + 1) as u32;
         let stage = (at.stage + 1) as u32;
@@ -51,7 +55,8 @@ fn check_stages(p: Plan) -> Check
     if p.rows != p.resources {
         return Check::RowCount;
     }
-    check_rows(p, index)
+    let ranks = units.ranks;
+    check_rows(p, units.other, ranks)
 }
 
 // The upstream check: the answer with its two places. A sound plan ranks every resource or none, so the first tells.

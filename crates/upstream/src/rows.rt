@@ -5,7 +5,7 @@ ghost use Rattle.model.specs.Numbers.{at, inRange, lowest};
 ghost use Rattle.model.specs.Plan.{allStages};
 ghost use Rattle.model.specs.Soundness.{Sound};
 ghost use Rattle.model.specs.Upstream.{faultyRow};
-use crate::position::position_of;
+ghost use Rattle.upstream.specs.Parts.{StretchRanks};
 use crate::position::u8_to_usize;
 use model::Plan;
 use upstream_rows::due_weight;
@@ -18,25 +18,29 @@ fn fault_number(row: usize, n: usize) -> u32
     if row < n { (row + 1) as u32 } else { 0 }
 }
 
+fn u8_to_u16(x: u8) -> u16
+    ensures { λ r. ⌜ (r ≡ x) × (r ≤ 255) ⌝ }
+{
+    x as u16
+}
+
 // The lowest row that is not weighted 1 at every stage upstream of its resource and 0 elsewhere; 0 for none. The stages are
-// gone through from the end, since a stage is upstream by what the stage after it is; none of its type follows a type's last.
-pub(crate) fn faulty_row(p: Plan, end: usize) -> u32
-    requires { ⌜ Sound p × (end ≡ allStages p) ⌝ }
+// gone through from the end, since a stage is upstream by what the stage after it is; the ranks let no stretch go on past a
+// type's last.
+pub(crate) fn faulty_row(p: Plan, end: usize, ranks: [u16; 128]) -> u32
+    requires { ⌜ Sound p × (end ≡ allStages p) × StretchRanks p ranks ⌝ }
     ensures { λ r. ⌜ r ≡ faultyRow p ⌝ }
 {
-    let types = u8_to_usize(p.types);
     let rows = u8_to_usize(p.rows);
     let mut row = 0;
     'rows: while row < rows {
+        let limit = u8_to_u16(p.rank[row]);
         let mut index = end;
         let mut due = 0;
         'stages: while 0 < index {
-            if position_of(index, &p.lengths, types).stage == 0 {
-                due = 0;
-            }
             index -= 1;
             let s = p.stages[index];
-            due = due_weight(s, &p.rank, p.resources, row, due);
+            due = due_weight(s.demand[row], ranks[index], limit, due);
             if s.weight[row] != due {
                 break 'rows;
             }
@@ -44,12 +48,6 @@ pub(crate) fn faulty_row(p: Plan, end: usize) -> u32
         row += 1;
     }
     fault_number(row, rows)
-}
-
-fn u8_to_u16(x: u8) -> u16
-    ensures { λ r. ⌜ r ≡ x ⌝ }
-{
-    x as u16
 }
 
 fn right_bound(bound: u16, capacity: u8) -> bool

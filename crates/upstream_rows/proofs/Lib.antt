@@ -1,2 +1,3 @@
 -- The laws behind the code.
 pub mod Beyond
+pub mod Ranked

@@ -1,17 +1,22 @@
-// What the upstream check asks of one stage: does it demand one unit, and what weight is due to it in a row? Any counts and any
-// row may be asked: nothing is demanded beyond the entries of a stage.
+// What the upstream check asks of one stage: does it demand one unit, what is the lowest rank that it demands, and what weight
+// is due to it in a row? Any counts may be asked: nothing is demanded beyond the entries of a stage.
 ghost use mathlib.Core.Path.{_≡_};
-ghost use Prim.Native.Nat.{_+_, _≤_, _<_};
+ghost use Prim.Native.Nat.{_≤_, _<_, min};
 ghost use lib.Dec.{eqb};
-ghost use lib.ListN.{getD};
 ghost use Rattle.model.specs.Numbers.{at, sumTo};
-ghost use Rattle.upstream_rows.specs.Due.{rankedIn, dueBy};
+ghost use Rattle.upstream_rows.specs.Due.{rankIf, lowestRank, dueBy};
 use model::Stage;
 
 fn u8_to_usize(x: u8) -> usize
     ensures { λ r. ⌜ (r ≡ x) × (r ≤ 255) ⌝ }
 {
     x as usize
+}
+
+fn u8_to_u16(x: u8) -> u16
+    ensures { λ r. ⌜ (r ≡ x) × (r ≤ 255) ⌝ }
+{
+    x as u16
 }
 
 // As many of the resources as a stage has entries.
@@ -24,58 +29,54 @@ fn with_entries(resources: u8) -> usize
     u8_to_usize(resources)
 }
 
-// The entry at an index; 0 where there is none.
-fn entry_at(xs: [u8; 32], i: usize) -> u8
-    ensures { λ r. ⌜ r ≡ getD xs i 0 ⌝ }
-{
-    if 32 <= i {
-        return 0;
-    }
-    xs[i]
-}
-
-// Does the stage demand one unit in all?
+// Does the stage demand one unit in all? Sums of 16 bits go eight at a time.
 pub fn one_unit(s: Stage, resources: u8) -> bool
     ensures { λ r. ⌜ r ≡ eqb (sumTo resources (at (s .demand))) 1 ⌝ }
 {
     let n = with_entries(resources);
-    let mut sum = 0;
+    let mut sum: u16 = 0;
     let mut i = 0;
     while i < n {
-        sum += u8_to_usize(s.demand[i]);
+        sum += u8_to_u16(s.demand[i]);
         i += 1;
     }
     sum == 1
 }
 
-// Does the stage demand a resource whose rank is at most the limit?
-fn ranked_up_to(s: Stage, rank: &[u8; 32], resources: u8, limit: u8) -> bool
-    ensures { λ r. ⌜ r ≡ rankedIn resources (s .demand) (now (rank .entry)) limit ⌝ }
+// The rank of a resource that is demanded; above every rank where it is not.
+fn rank_if(demand: u8, rank: u8) -> u16
+    ensures { λ r. ⌜ r ≡ rankIf demand rank ⌝ }
 {
-    let n = with_entries(resources);
-    let mut i = 0;
-    while i < n {
-        if 1 <= s.demand[i] {
-            if rank[i] <= limit {
-                return true;
-            }
-        }
-        i += 1;
-    }
-    false
+    if 1 <= demand { u8_to_u16(rank) } else { 256 }
 }
 
-// The weight due to a stage in the row of the target, counted from 0, where `later` is due to the stage after it.
-pub fn due_weight(s: Stage, rank: &[u8; 32], resources: u8, target: usize, later: u8) -> u8
-    ensures { λ r. ⌜ r ≡ dueBy resources (s .demand) (now (rank .entry)) (target + 1) later ⌝ }
+fn lower(a: u16, b: u16) -> u16
+    ensures { λ r. ⌜ r ≡ min a b ⌝ }
 {
-    let demand = s.demand;
-    if 1 <= entry_at(demand, target) {
+    if a < b { a } else { b }
+}
+
+// The lowest rank of the resources that the stage demands; above every rank where it demands none.
+pub fn lowest_rank(s: Stage, rank: &[u8; 32], resources: u8) -> u16
+    ensures { λ r. ⌜ r ≡ lowestRank resources (s .demand) (now (rank .entry)) ⌝ }
+{
+    let n = with_entries(resources);
+    let mut lowest = 256;
+    let mut i = 0;
+    while i < n {
+        lowest = lower(lowest, rank_if(s.demand[i], rank[i]));
+        i += 1;
+    }
+    lowest
+}
+
+// The weight due to a stage in a resource's row, by its demand of the resource and the least rank whose stretch goes on past
+// it; `limit` is the resource's rank, and `later` is due to the stage after it.
+pub fn due_weight(demand: u8, rank: u16, limit: u16, later: u8) -> u8
+    ensures { λ r. ⌜ r ≡ dueBy demand rank limit later ⌝ }
+{
+    if 1 <= demand {
         return 1;
     }
-    if ranked_up_to(s, rank, resources, entry_at(*rank, target)) {
-        later
-    } else {
-        0
-    }
+    if rank <= limit { later } else { 0 }
 }

@@ -11,8 +11,9 @@ use borrow.Author.Tests.{eq-eqb, ne-eqb}
 use Rattle.model.specs.Plan.{allStages}
 use Rattle.model.specs.Upstream.{faultyStage, faultyType}
 use Rattle.model.specs.declared.Plan.{Plan}
-use Rattle.upstream.specs.Parts.{Stands}
+use Rattle.upstream.specs.Parts.{Stands, FirstOther}
 use Rattle.upstream.specs.declared.position.Position.{Position}
+use Rattle.upstream.specs.declared.units.Units.{Units}
 use Rattle.upstream.proofs.Stages.{faulty, none-faulty, at-end}
 use Rattle.upstream.proofs.check_stages.Statement.{statement}
 use Rattle.upstream.proofs.check_stages.Tie as tie
@@ -25,8 +26,14 @@ module _ (c : tie.After-struct-known) where
   abbrev plan : Plan
   plan = start .args .t1
 
+  abbrev units : Units
+  units = c .before .before .before .before .before .units-of .result
+
   abbrev index : ℕ
-  index = c .before .before .before .before .before .first-other .result
+  index = units .other
+
+  first : FirstOther plan index
+  first = c .before .before .before .before .before .units-of .ensures .0
 
   abbrev position : Position
   position = c .before .position-of .result
@@ -38,21 +45,21 @@ module _ (c : tie.After-struct-known) where
 
   fault : position .kind < plan .types → (faultyType plan ≡ position .kind + 1) × (faultyStage plan (position .kind + 1) ≡ position .stage + 1)
   fault h =
-      let f = faulty plan (start .pre) index (c .before .before .before .before .before .first-other .ensures) position stands h in
+      let f = faulty plan (start .pre) index first position stands h in
       (f .0, rw (add-one (position .kind)) (f .1))
 
   module _ (past : plan .types ≤ position .kind) where
     units-met : eqb (faultyType plan) 0 ≡ true
-    units-met = eq-eqb _ 0 (none-faulty plan (start .pre) index (c .before .before .before .before .before .first-other .ensures) position stands past)
+    units-met = eq-eqb _ 0 (none-faulty plan (start .pre) index first position stands past)
 
     ends : index ≡ allStages plan
-    ends = at-end plan (start .pre) index (c .before .before .before .before .before .first-other .ensures) position stands past
+    ends = at-end plan (start .pre) index first position stands past
 
 types-are : (c : tie.Else1) → plan (c .before) .types ≤ position (c .before) .kind
 types-are c = omega (arith, c .if1 .left, c .before .before .before .before .before .u8-to-usize .ensures .0)
 
-first-other-requires : tie.Need-first-other-requires
-first-other-requires c κs = tt
+units-of-requires : tie.Need-units-of-requires
+units-of-requires c κs = tt
 
 u8-to-usize-requires : tie.Need-u8-to-usize-requires
 u8-to-usize-requires c κs = tt
@@ -82,18 +89,20 @@ returns-2 : tie.Need-returns-2
 returns-2 c = rw (units-met (c .before .before) (types-are (c .before)), ne-eqb _ _ (c .if2 .taken)) refl
 
 check-rows-requires : tie.Need-check-rows-requires
-check-rows-requires c κs = (start (c .before .before) .pre, ends (c .before .before) (types-are (c .before)))
+check-rows-requires c κs =
+    let h = c .before .before .before in
+    (start h .pre, ends h (types-are (c .before .before)), h .before .before .before .before .before .units-of .ensures .1)
 
 returns-3 : tie.Need-returns-3
 returns-3 c =
-    let h = c .before in
+    let h = c .before .before in
     rw (units-met (h .before .before) (types-are (h .before)), eq-eqb _ _ (h .if2 .left)) (c .check-rows .ensures)
 
 pub check-stages-spec : {M : Type 1} → statement M
 check-stages-spec =
     tie.close
     (tie.spec
-    first-other-requires
+    units-of-requires
     u8-to-usize-requires
     position-of-requires
     add-kind

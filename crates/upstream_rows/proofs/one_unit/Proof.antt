@@ -22,11 +22,11 @@ with-entries-requires c κs = tt
 loop-holds : tie.Need-loop-holds Inv-loop μ-loop
 loop-holds c = search needs
 
-element-copy-out-u8-to-usize : tie.Need-element-copy-out-u8-to-usize Inv-loop μ-loop
-element-copy-out-u8-to-usize c = search needs
+element-copy-out-u8-to-u16 : tie.Need-element-copy-out-u8-to-u16 Inv-loop μ-loop
+element-copy-out-u8-to-u16 c = search needs
 
-u8-to-usize-requires : tie.Need-u8-to-usize-requires Inv-loop μ-loop
-u8-to-usize-requires c κs = tt
+u8-to-u16-requires : tie.Need-u8-to-u16-requires Inv-loop μ-loop
+u8-to-u16-requires c κs = tt
 
 add-sum : tie.Need-add-sum Inv-loop μ-loop
 add-sum c = search needs
@@ -40,7 +40,7 @@ loop-less c = search needs
 loop-again : tie.Need-loop-again Inv-loop μ-loop
 loop-again c =
     let at = c .before .before .before .loop in
-    (rw (add-one, at .inv .0, c .u8-to-usize .ensures .0) refl, omega arith, omega arith)
+    (rw (add-one, at .inv .0, c .u8-to-u16 .ensures .0) refl, omega arith, omega arith)
 
 returns : tie.Need-returns Inv-loop μ-loop
 returns c =
@@ -58,8 +58,8 @@ one-unit-spec =
     μ-loop
     with-entries-requires
     loop-holds
-    element-copy-out-u8-to-usize
-    u8-to-usize-requires
+    element-copy-out-u8-to-u16
+    u8-to-u16-requires
     add-sum
     add-i
     loop-less

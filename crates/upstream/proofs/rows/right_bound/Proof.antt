@@ -8,7 +8,7 @@ u8-to-u16-requires : tie.Need-u8-to-u16-requires
 u8-to-u16-requires c κs = tt
 
 returns : tie.Need-returns
-returns c = rw (le-leb 1 _ (c .before .if1 .taken), ← c .u8-to-u16 .ensures) refl
+returns c = rw (le-leb 1 _ (c .before .if1 .taken), ← c .u8-to-u16 .ensures .0) refl
 
 returns-2 : tie.Need-returns-2
 returns-2 c = rw (lt-leb 1 _ (c .if1 .left)) refl
