@@ -21,19 +21,21 @@ const LAYOUTS: [[u32; 13]; 7] = [
     [2, 1, 1, 0, 0, 1, 255, 0, 0, 0, 0, 0, 0], // K
 ];
 
-// A section's row of the table; zeros where there is no such section. It is read once for a record: a constant is laid down
-// anew wherever it is named.
+// A section's row of the table; zeros where there is no such section. A row for each section by its own index: at an index that is not
+// known the compiler lays the whole table down anew.
 fn layout_row(section: u32) -> [u32; 13]
     ensures { λ r. ⌜ r ≡ rowOf (layoutOf section) ⌝ }
 {
-    if section < 1 {
-        return [0; 13];
+    match section {
+        1 => LAYOUTS[0],
+        2 => LAYOUTS[1],
+        3 => LAYOUTS[2],
+        4 => LAYOUTS[3],
+        5 => LAYOUTS[4],
+        6 => LAYOUTS[5],
+        7 => LAYOUTS[6],
+        _ => [0; 13],
     }
-    if 7 < section {
-        return [0; 13];
-    }
-    let row = (section - 1) as usize;
-    LAYOUTS[row]
 }
 
 // How many fields the records of a section have.

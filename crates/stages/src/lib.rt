@@ -10,6 +10,12 @@ fn u8_to_u32(x: u8) -> u32
     x as u32
 }
 
+fn u8_to_usize(x: u8) -> usize
+    ensures { λ r. ⌜ (r ≡ x) × (r ≤ 255) ⌝ }
+{
+    x as usize
+}
+
 // Handed the array itself, of which it is known that it has 16 entries.
 fn entry(lengths: [u8; 16], kind: u32) -> u32
     ensures { λ r. ⌜ r ≡ at lengths kind ⌝ }
@@ -41,7 +47,8 @@ fn stages_before(lengths: [u8; 16], kind: u32) -> usize
         if 16 < t {
             return sum;
         }
-        sum += entry(lengths, t) as usize;
+        let before = (t - 1) as usize;
+        sum += u8_to_usize(lengths[before]);
         t += 1;
     }
     sum

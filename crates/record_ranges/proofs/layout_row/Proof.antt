@@ -1,38 +1,87 @@
--- A row of the table is the row of its section; a section that there is not has no fields.
-use Prim.Native.Nat.{_-_}
-use native.Mathlib.Omega.{arith}
+-- Here the table is compared, row by row, with the rows of the definition; a section that there is not has no fields.
+use Prim.Native.Nat.{ℕ, zero, suc}
 use mathlib.Core.List.{[]}
-use mathlib.Core.Path.{sym, ap, _∙_}
-use borrow.Author.Needs.{needs}
-use Rattle.model.proofs.Lists.{entry-there}
-use Rattle.entries.proofs.Outside.{outside}
-use Rattle.plan_text.specs.Records.{layouts}
+use mathlib.Core.Logic.{_≢_}
+use mathlib.Core.Path.{_≡_, refl, sym, ap}
+use Rattle.plan_text.specs.Records.{layoutOf}
 use Rattle.record_ranges.specs.Table.{rowOf}
-use Rattle.record_ranges.proofs.TableRule.{table, row-right}
+use borrow.Author.Needs.{needs}
 use Rattle.record_ranges.proofs.layout_row.Statement.{statement}
 use Rattle.record_ranges.proofs.layout_row.Tie as tie
 
-returns : tie.Need-returns
-returns c = sym (ap rowOf (outside layouts (c .before .args .section) [] (λ h. omega arith)))
-
-returns-2 : tie.Need-returns-2
-returns-2 c = sym (ap rowOf (outside layouts (c .before .before .args .section) [] (λ h. omega arith)))
-
-cast-row : tie.Need-cast-row
-cast-row c = search needs
-
-mul-result : tie.Need-mul-result
-mul-result c = search needs
+unnamed : (s : ℕ) → s ≢ 1 → s ≢ 2 → s ≢ 3 → s ≢ 4 → s ≢ 5 → s ≢ 6 → s ≢ 7 → layoutOf s ≡ []
+unnamed zero c r t d b a k = refl
+unnamed (suc zero) c r t d b a k = absurd (c refl)
+unnamed (suc (suc zero)) c r t d b a k = absurd (r refl)
+unnamed (suc (suc (suc zero))) c r t d b a k = absurd (t refl)
+unnamed (suc (suc (suc (suc zero)))) c r t d b a k = absurd (d refl)
+unnamed (suc (suc (suc (suc (suc zero))))) c r t d b a k = absurd (b refl)
+unnamed (suc (suc (suc (suc (suc (suc zero)))))) c r t d b a k = absurd (a refl)
+unnamed (suc (suc (suc (suc (suc (suc (suc zero))))))) c r t d b a k = absurd (k refl)
+unnamed (suc (suc (suc (suc (suc (suc (suc (suc s)))))))) c r t d b a k = refl
 
 array-copy-out-result : tie.Need-array-copy-out-result
 array-copy-out-result c = search needs
 
--- here the table is compared with the rows of the definition
+array-copy-out-result-2 : tie.Need-array-copy-out-result-2
+array-copy-out-result-2 c = search needs
+
+array-copy-out-result-3 : tie.Need-array-copy-out-result-3
+array-copy-out-result-3 c = search needs
+
+array-copy-out-result-4 : tie.Need-array-copy-out-result-4
+array-copy-out-result-4 c = search needs
+
+array-copy-out-result-5 : tie.Need-array-copy-out-result-5
+array-copy-out-result-5 c = search needs
+
+array-copy-out-result-6 : tie.Need-array-copy-out-result-6
+array-copy-out-result-6 c = search needs
+
+array-copy-out-result-7 : tie.Need-array-copy-out-result-7
+array-copy-out-result-7 c = search needs
+
+returns : tie.Need-returns
+returns c = let e : c .before .before .args .section ≡ 1 = search needs in rw e refl
+
+returns-2 : tie.Need-returns-2
+returns-2 c = let e : c .before .before .args .section ≡ 2 = search needs in rw e refl
+
 returns-3 : tie.Need-returns-3
-returns-3 c =
-    let s = c .before .before .before .args .section in
-    entry-there table (s - 1) _ [] (omega arith) ∙ row-right s (omega arith)
+returns-3 c = let e : c .before .before .args .section ≡ 3 = search needs in rw e refl
+
+returns-4 : tie.Need-returns-4
+returns-4 c = let e : c .before .before .args .section ≡ 4 = search needs in rw e refl
+
+returns-5 : tie.Need-returns-5
+returns-5 c = let e : c .before .before .args .section ≡ 5 = search needs in rw e refl
+
+returns-6 : tie.Need-returns-6
+returns-6 c = let e : c .before .before .args .section ≡ 6 = search needs in rw e refl
+
+returns-7 : tie.Need-returns-7
+returns-7 c = let e : c .before .before .args .section ≡ 7 = search needs in rw e refl
+
+returns-8 : tie.Need-returns-8
+returns-8 c =
+    sym (ap rowOf (unnamed (c .before .args .section) (search needs) (search needs) (search needs) (search needs) (search needs) (search needs) (search needs)))
 
 pub layout-row-spec : {M : Type 1} → statement M
 layout-row-spec =
-    tie.close (tie.spec returns returns-2 cast-row mul-result array-copy-out-result returns-3)
+    tie.close
+    (tie.spec
+    array-copy-out-result
+    array-copy-out-result-2
+    array-copy-out-result-3
+    array-copy-out-result-4
+    array-copy-out-result-5
+    array-copy-out-result-6
+    array-copy-out-result-7
+    returns
+    returns-2
+    returns-3
+    returns-4
+    returns-5
+    returns-6
+    returns-7
+    returns-8)

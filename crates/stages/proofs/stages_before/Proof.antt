@@ -5,32 +5,38 @@ use native.Mathlib.Omega.{arith}
 use borrow.Author.Needs.{needs}
 use lib.ListN.{length}
 use Rattle.model.specs.Numbers.{at, sumTo}
-use Rattle.parts.proofs.FixedWidth.{sum-beyond, sum-last}
+use Rattle.parts.proofs.FixedWidth.{at-position, sum-beyond, sum-last}
 use Rattle.stages.proofs.stages_before.Statement.{statement}
 use Rattle.stages.proofs.stages_before.Tie as tie
 
 abbrev Inv-loop : tie.InvT-loop
-Inv-loop lengths kind sum₀ t₀ sum t =
-    (1 ≤ t) × (t ≤ 17) × (t - 1 ≤ kind - 1) × (sum ≡ sumTo (t - 1) (at lengths)) × (sum ≤ (t - 1) * 4294967295)
+Inv-loop kind lengths sum₀ t₀ sum t =
+    (length lengths ≡ 16) × (1 ≤ t) × (t ≤ 17) × (t - 1 ≤ kind - 1) × (sum ≡ sumTo (t - 1) (at lengths)) × (sum ≤ (t - 1) * 4294967295)
 
 abbrev μ-loop : tie.MeasureT-loop
-μ-loop lengths kind sum₀ t₀ sum t = 17 - t
+μ-loop kind lengths sum₀ t₀ sum t = 17 - t
 
 loop-holds : tie.Need-loop-holds Inv-loop μ-loop
-loop-holds c = (search needs, search needs, search needs, refl, search needs)
+loop-holds c = (c .good .0 .1 .0 .1, search needs, search needs, search needs, refl, search needs)
 
 returns : tie.Need-returns Inv-loop μ-loop
 returns c =
     let l = c .before .before .loop in
     let a = c .before .before .before .args in
-    let all : length (a .lengths) ≡ 16 = search needs in
-    (l .inv .3 ∙ sym (sum-beyond (a .lengths) (l .t - 1) (a .kind - 1) (omega arith) (omega arith)), omega arith)
+    let all = l .inv .0 in
+    (l .inv .4 ∙ sym (sum-beyond (a .t1) (l .t - 1) (a .kind - 1) (omega arith) (omega arith)), omega arith)
 
-entry-requires : tie.Need-entry-requires Inv-loop μ-loop
-entry-requires c κs = search needs
+sub-before : tie.Need-sub-before Inv-loop μ-loop
+sub-before c = search needs
 
-cast-sum : tie.Need-cast-sum Inv-loop μ-loop
-cast-sum c = search needs
+cast-before : tie.Need-cast-before Inv-loop μ-loop
+cast-before c = search needs
+
+array-read-u8-to-usize : tie.Need-array-read-u8-to-usize Inv-loop μ-loop
+array-read-u8-to-usize c = search needs
+
+u8-to-usize-requires : tie.Need-u8-to-usize-requires Inv-loop μ-loop
+u8-to-usize-requires c κs = search needs
 
 add-sum : tie.Need-add-sum Inv-loop μ-loop
 add-sum c = search needs
@@ -46,13 +52,14 @@ loop-again c =
     let l = c .before .before .before .loop in
     let a = c .before .before .before .before .args in
     let same : l .t + 1 - 1 ≡ l .t = omega arith in
-    (search needs, search needs, search needs, rw same (omega (arith, sum-last (at (a .lengths)) (l .t) (l .inv .0))), search needs)
+    let added : c .u8-to-usize .result ≡ at (a .t1) (l .t) = c .u8-to-usize .ensures .0 ∙ sym (at-position (a .t1) (l .t) (omega arith)) in
+    (l .inv .0, search needs, search needs, search needs, rw same (omega (arith, sum-last (at (a .t1)) (l .t) (l .inv .1), added)), search needs)
 
 returns-2 : tie.Need-returns-2 Inv-loop μ-loop
 returns-2 c =
     let l = c .before .loop in
     let last : l .t - 1 ≡ c .before .before .args .kind - 1 = omega arith in
-    (rw last at (l .inv .3), omega arith)
+    (rw last at (l .inv .4), omega arith)
 
 pub stages-before-spec : {M : Type 1} → statement M
 stages-before-spec =
@@ -62,8 +69,10 @@ stages-before-spec =
     μ-loop
     loop-holds
     returns
-    entry-requires
-    cast-sum
+    sub-before
+    cast-before
+    array-read-u8-to-usize
+    u8-to-usize-requires
     add-sum
     add-t
     loop-less
