@@ -1,0 +1,196 @@
+//! The library and the reference on the same inputs, in one run and in alternating turns. The
+//! library works on the bytes of its cell, the reference on its own plan and table by reference.
+
+mod measure;
+mod plans;
+
+use library::{cell, Answer, CELL, MAX_OUTPUT};
+use measure::{measure, print_head, time, ROUNDS};
+use plans::{conforming_plan, event_plan, event_table, first_stages, full_text, Size};
+use reference::drain::drain;
+use reference::event::advance;
+use reference::run::run;
+use reference::text::read_plan;
+use reference::upstream::check;
+use reference::{Plan, Table};
+use std::hint::black_box;
+
+fn main() {
+    println!("Medians of {ROUNDS} alternating rounds. Before each event and drain the table is");
+    println!("restored; that copy counts on both sides (769 bytes of the cell, 772 of the table).");
+    println!();
+    print_head();
+    read_lines();
+    fixed_line();
+    for size in [Size::Smallest, Size::Largest] {
+        for jobs in [1, 16, 63] {
+            event_lines(size, jobs);
+        }
+    }
+    for size in [Size::Smallest, Size::Largest] {
+        check_lines(size);
+    }
+    for size in [Size::Smallest, Size::Largest] {
+        drain_lines(size);
+    }
+    run_lines();
+    println!();
+    println!("A copy of a plan, 8,340 bytes: {}.", copy_time());
+}
+
+fn answer(number: u32, first: u32, second: u32) -> Answer {
+    Answer {
+        number,
+        first,
+        second,
+    }
+}
+
+fn read_lines() {
+    let text = full_text(65_536);
+    let mut bytes = vec![0; CELL];
+    let reading = read_plan(&text);
+    assert_eq!(reading.number, 0);
+    assert_eq!(library::read_plan(&mut bytes, &text), answer(0, 0, 0));
+    assert_eq!(bytes, cell::encode(&reading.plan, &Table::EMPTY));
+    measure(
+        "read a plan text of 65,536 bytes",
+        || {
+            black_box(library::read_plan(&mut bytes, black_box(&text)));
+        },
+        || {
+            black_box(read_plan(black_box(&text)));
+        },
+    );
+}
+
+/// What a call costs before a question is asked: the empty plan fails the first one at once.
+fn fixed_line() {
+    let mut table = Table::EMPTY;
+    let mut bytes = cell::encode(&Plan::EMPTY, &table);
+    assert_eq!(advance(&Plan::EMPTY, &mut table, 1).number, 11);
+    assert_eq!(library::advance(&mut bytes, 1), answer(11, 0, 0));
+    measure(
+        "advance, refused (11), the empty plan",
+        || {
+            black_box(library::advance(&mut bytes, black_box(1)));
+        },
+        || {
+            black_box(advance(black_box(&Plan::EMPTY), &mut table, black_box(1)));
+        },
+    );
+}
+
+/// One of several copies that are made in turn, as those of a plan within a call are.
+fn copy_time() -> String {
+    const PLAN: usize = 8_340;
+    let mut bytes = vec![0u8; 8 * PLAN];
+    let mut at = 0;
+    time(|| {
+        let next = (at + PLAN) % bytes.len();
+        bytes.copy_within(at..at + PLAN, next);
+        black_box(&mut bytes);
+        at = next;
+    })
+}
+
+/// An admitted advance of the last job, and one that the last row refuses.
+fn event_lines(size: Size, jobs: usize) {
+    for refused in [false, true] {
+        let before = event_table(size, jobs);
+        let plan = event_plan(size, refused.then_some(&before));
+        let job = jobs as u32;
+        let mut table = before.clone();
+        let mut bytes = cell::encode(&plan, &before);
+        let restored = bytes[cell::TABLE..].to_vec();
+        let expected = advance(&plan, &mut table, job);
+        assert_eq!(expected.number, if refused { 19 } else { 0 });
+        let found = library::advance(&mut bytes, job);
+        assert_eq!(found, answer(expected.number, expected.place, 0));
+        assert_eq!(bytes, cell::encode(&plan, &table));
+        let outcome = if refused { "refused (19)" } else { "admitted" };
+        let plural = if jobs == 1 { "" } else { "s" };
+        measure(
+            &format!("advance, {outcome}, {jobs} job{plural}, {size}"),
+            || {
+                bytes[cell::TABLE..].copy_from_slice(black_box(&restored));
+                black_box(library::advance(&mut bytes, black_box(job)));
+            },
+            || {
+                table.clone_from(black_box(&before));
+                black_box(advance(black_box(&plan), &mut table, black_box(job)));
+            },
+        );
+    }
+}
+
+fn check_lines(size: Size) {
+    let plan = conforming_plan(size);
+    let bytes = cell::encode(&plan, &Table::EMPTY);
+    assert_eq!(check(&plan).number, 0);
+    assert_eq!(library::check(&bytes), answer(0, 0, 0));
+    measure(
+        &format!("upstream check, {size}"),
+        || {
+            black_box(library::check(black_box(&bytes)));
+        },
+        || {
+            black_box(check(black_box(&plan)));
+        },
+    );
+}
+
+fn drain_lines(size: Size) {
+    let plan = conforming_plan(size);
+    let before = first_stages(&plan, 64);
+    let mut table = before.clone();
+    let mut bytes = cell::encode(&plan, &before);
+    let restored = bytes[cell::TABLE..].to_vec();
+    let drained = drain(&plan, &mut table, u32::MAX);
+    assert_eq!(drained.number, 0);
+    let found = library::drain(&mut bytes, u32::MAX);
+    assert_eq!(found, answer(0, drained.moves, 0));
+    assert_eq!(bytes, cell::encode(&plan, &Table::EMPTY));
+    measure(
+        &format!("drain of 64 jobs, {} moves, {size}", drained.moves),
+        || {
+            bytes[cell::TABLE..].copy_from_slice(black_box(&restored));
+            black_box(library::drain(&mut bytes, u32::MAX));
+        },
+        || {
+            table.clone_from(black_box(&before));
+            black_box(drain(black_box(&plan), &mut table, u32::MAX));
+        },
+    );
+}
+
+fn run_lines() {
+    let few = b"E\nL\t1\t1\nL\t2\t2\nA\t1\nA\t2\nU\t1\nL\t1\t3\n".to_vec();
+    let text = full_text(65_536 - few.len());
+    run_line("the plan fills it, 6 events", &[text, few].concat());
+    let mut many = b"C\t1\t1\t0\nR\t1\t2\nT\t1\t2\nS\t1\t1\t1\t1\nS\t1\t2\t1\t1\nE\n".to_vec();
+    let turn = b"L\t1\t1\nA\t1\nU\t1\n";
+    let turns = (65_536 - many.len()) / turn.len();
+    many.extend(turn.repeat(turns));
+    let left = 65_536 - many.len();
+    many.extend(b"\n".repeat(left));
+    run_line(&format!("a small plan, {} events", turns * 3), &many);
+}
+
+fn run_line(what: &str, input: &[u8]) {
+    assert_eq!(input.len(), 65_536);
+    let mut output = vec![0; MAX_OUTPUT];
+    let printed = run(input);
+    assert!(printed.starts_with(b"P\t0\t0\n"));
+    let length = library::run(input, &mut output);
+    assert_eq!(output[..length], printed);
+    measure(
+        &format!("cellmoves, 65,536 bytes: {what}"),
+        || {
+            black_box(library::run(black_box(input), &mut output));
+        },
+        || {
+            black_box(run(black_box(input)));
+        },
+    );
+}

@@ -1,0 +1,131 @@
+//! The plans, tables and texts that are measured.
+
+use differential::plans::weigh_upstream;
+use reference::{Job, Plan, Table};
+use std::fmt;
+
+#[derive(Clone, Copy, PartialEq, Eq)]
+pub enum Size {
+    Smallest,
+    Largest,
+}
+
+impl fmt::Display for Size {
+    fn fmt(&self, formatter: &mut fmt::Formatter<'_>) -> fmt::Result {
+        formatter.write_str(match self {
+            Size::Smallest => "smallest plan",
+            Size::Largest => "largest plan",
+        })
+    }
+}
+
+/// Counts and capacities: 1 of each and `length` stages, or 32 resources and rows, 16 types,
+/// 128 stages.
+fn outline(size: Size, length: u8) -> Plan {
+    let mut plan = Plan::EMPTY;
+    let (count, types, length) = match size {
+        Size::Smallest => (1, 1, length),
+        Size::Largest => (32, 16, 8),
+    };
+    plan.resources = count;
+    plan.types = types;
+    plan.rows = count;
+    plan.capacity[..usize::from(count)].fill(255);
+    plan.lengths[..usize::from(types)].fill(length);
+    plan
+}
+
+/// Every stage demands 1 to 4 units of every resource and has a weight in every row: 63 jobs fit.
+/// In the last row the weight is the stage's number, so that an advance adds 1. If a table is
+/// given, that row leaves no room beside it.
+pub fn event_plan(size: Size, full: Option<&Table>) -> Plan {
+    let mut plan = outline(size, 2);
+    let count = usize::from(plan.resources);
+    let length = usize::from(plan.lengths[0]);
+    plan.bound[..count].fill(65_535);
+    for place in 0..plan.total() {
+        let stage = &mut plan.stages[place];
+        for other in 0..count {
+            stage.demand[other] = 1 + ((place * 5 + other * 3) % 4) as u8;
+            stage.weight[other] = 1 + ((place * 11 + other * 7) % 255) as u8;
+        }
+        stage.weight[count - 1] = (place % length + 1) as u8;
+    }
+    if let Some(table) = full {
+        plan.bound[count - 1] = table.active().iter().map(|job| job.stage as u16).sum();
+    }
+    plan
+}
+
+/// Jobs 1 to `jobs`; none at its last stage.
+pub fn event_table(size: Size, jobs: usize) -> Table {
+    let plan = outline(size, 2);
+    let mut table = Table::EMPTY;
+    for place in 0..jobs as u32 {
+        table.push(Job {
+            number: place + 1,
+            job_type: place % u32::from(plan.types) + 1,
+            stage: place % (u32::from(plan.lengths[0]) - 1) + 1,
+        });
+    }
+    table
+}
+
+/// A plan that meets the upstream check and has room for 64 jobs everywhere.
+pub fn conforming_plan(size: Size) -> Plan {
+    let mut plan = outline(size, 1);
+    let count = usize::from(plan.resources);
+    plan.bound[..count].fill(255);
+    for place in 0..count {
+        plan.rank[place] = 1 + (place * 13 % 32) as u8;
+    }
+    for place in 0..plan.total() {
+        plan.stages[place].demand[place * 21 % count] = 1;
+    }
+    weigh_upstream(&mut plan);
+    plan
+}
+
+/// So many jobs at stage 1, over all types.
+pub fn first_stages(plan: &Plan, jobs: u32) -> Table {
+    let mut table = Table::EMPTY;
+    for place in 0..jobs {
+        table.push(Job {
+            number: place + 1,
+            job_type: place % u32::from(plan.types) + 1,
+            stage: 1,
+        });
+    }
+    table
+}
+
+/// A valid text of exactly this length with the highest counts: after what is needed, as many
+/// demands and weights as fit, then a comment.
+pub fn full_text(length: usize) -> Vec<u8> {
+    let stages = || (0..128).map(|place| (place / 8 + 1, place % 8 + 1));
+    let numbered = |letter: char, count: usize, value: u32| -> String {
+        (1..=count)
+            .map(|number| format!("{letter}\t{number}\t{value}\n"))
+            .collect()
+    };
+    let counts = "C\t32\t16\t32\n".to_string() + &numbered('R', 32, 255) + &numbered('T', 16, 8);
+    let bounds = numbered('B', 32, 65_535);
+    let ranks = numbered('K', 32, 255);
+    let mut demands = String::new();
+    let mut weights = String::new();
+    let fixed = counts.len() + bounds.len() + ranks.len();
+    for other in 1..=32 {
+        for (job_type, stage) in stages() {
+            let demand = format!("S\t{job_type}\t{stage}\t{other}\t1\n");
+            let weight = format!("A\t{other}\t{job_type}\t{stage}\t1\n");
+            let more = demand.len() + weight.len();
+            if fixed + demands.len() + weights.len() + more + 2 <= length {
+                demands.push_str(&demand);
+                weights.push_str(&weight);
+            }
+        }
+    }
+    let text = counts + &demands + &bounds + &weights + &ranks;
+    let comment = "#".repeat(length - text.len() - 1);
+    (text + &comment + "\n").into_bytes()
+}

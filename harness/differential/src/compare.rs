@@ -1,0 +1,265 @@
+//! One cell on both sides: each call is made of the library on its bytes and of the reference on
+//! its own plan and table, and answer and bytes are compared after every call.
+
+use crate::counts::{Counts, Group};
+use crate::guarded::Guarded;
+use crate::random::Random;
+use library::{cell, Answer, CELL, MAX_OUTPUT};
+use reference::drain::drain;
+use reference::event::{advance, load, unload};
+use reference::text::read_plan;
+use reference::upstream::check;
+use reference::{Plan, Table};
+use std::fmt::Debug;
+
+#[derive(Clone, Copy, Debug, PartialEq, Eq)]
+pub enum Call {
+    Check,
+    Load { job: u32, job_type: u32 },
+    Advance { job: u32 },
+    Unload { job: u32 },
+    Drain { budget: u32 },
+}
+
+/// Output space of a whole run, by what is printed; the most is enough for every run.
+#[derive(Clone, Copy, Debug, PartialEq, Eq)]
+pub enum Space {
+    None,
+    OneLess,
+    More(usize),
+    Most,
+}
+
+/// A cell with any bytes, of any length.
+pub struct Sides<'a> {
+    pub plan: Plan,
+    pub table: Table,
+    counts: &'a mut Counts,
+    /// The bytes that the library writes, and those that the reference expects there.
+    found: Guarded,
+    expected: Vec<u8>,
+}
+
+impl Sides<'_> {
+    pub fn new(bytes: Vec<u8>, counts: &mut Counts) -> Sides<'_> {
+        let mut whole = bytes.clone();
+        whole.resize(bytes.len().max(CELL), 0);
+        Sides {
+            plan: cell::decode_plan(&whole),
+            table: cell::decode_table(&whole),
+            counts,
+            found: Guarded::new(&bytes),
+            expected: bytes,
+        }
+    }
+
+    /// Every function answers 9 to a cell that is too short, before anything else.
+    fn is_short(&self) -> bool {
+        self.expected.len() < CELL
+    }
+
+    /// Reads a text into the plan; the table's bytes stay.
+    pub fn read_plan(&mut self, text: &[u8]) -> Result<Answer, String> {
+        let found = library::read_plan(self.found.inner_mut(), text);
+        let expected = if self.is_short() {
+            answer(9, 0, 0)
+        } else {
+            let reading = read_plan(text);
+            self.plan = reading.plan;
+            cell::encode_plan(&self.plan, &mut self.expected);
+            answer(reading.number, reading.line, 0)
+        };
+        self.counts.add(Group::Text, expected.number);
+        self.compare(format_args!("reading"), expected, found)
+            .map_err(|difference| format!("{difference}\n  text {}", shown(text)))?;
+        Ok(expected)
+    }
+
+    pub fn call(&mut self, call: Call) -> Result<Answer, String> {
+        let expected = self.expect(call);
+        let found = self.find(call);
+        self.counts.add_call(call, expected.number);
+        self.compare(call, expected, found)?;
+        Ok(expected)
+    }
+
+    /// The reference's answer; its table goes to the expected bytes.
+    fn expect(&mut self, call: Call) -> Answer {
+        if self.is_short() {
+            return answer(9, 0, 0);
+        }
+        let plan = &self.plan;
+        let table = &mut self.table;
+        let event = |event: reference::event::Answer| answer(event.number, event.place, 0);
+        let expected = match call {
+            Call::Check => {
+                let checked = check(plan);
+                answer(checked.number, checked.first, checked.second)
+            }
+            Call::Load { job, job_type } => event(load(plan, table, job, job_type)),
+            Call::Advance { job } => event(advance(plan, table, job)),
+            Call::Unload { job } => event(unload(plan, table, job)),
+            Call::Drain { budget } => {
+                let drained = drain(plan, table, budget);
+                answer(drained.number, drained.moves, 0)
+            }
+        };
+        cell::encode_table(&self.table, &mut self.expected);
+        expected
+    }
+
+    fn find(&mut self, call: Call) -> Answer {
+        let bytes = self.found.inner_mut();
+        match call {
+            Call::Check => library::check(bytes),
+            Call::Load { job, job_type } => library::load(bytes, job, job_type),
+            Call::Advance { job } => library::advance(bytes, job),
+            Call::Unload { job } => library::unload(bytes, job),
+            Call::Drain { budget } => library::drain(bytes, budget),
+        }
+    }
+
+    fn compare(&self, what: impl Debug, expected: Answer, found: Answer) -> Result<(), String> {
+        compare_answers(expected, found)
+            .and_then(|()| compare_bytes(&self.expected, self.found.inner()))
+            .and_then(|()| self.found.check())
+            .map_err(|difference| format!("{what:?}: {difference}"))
+    }
+}
+
+/// The whole run of `cellmoves` on both sides in some output space. The space is filled before,
+/// and what lies beyond the output must stay.
+pub fn compare_run(
+    input: &[u8],
+    space: Space,
+    random: &mut Random,
+    counts: &mut Counts,
+) -> Result<(), String> {
+    let printed = reference::run::run(input);
+    let length = match space {
+        Space::None => 0,
+        Space::OneLess => printed.len() - 1,
+        Space::More(more) => printed.len() + more,
+        Space::Most => MAX_OUTPUT,
+    };
+    let mut expected = random.bytes(length);
+    let mut found = Guarded::new(&expected);
+    let fits = printed.len() <= length;
+    if fits {
+        expected[..printed.len()].copy_from_slice(&printed);
+        counts.add_output(&printed);
+    }
+    counts.add(Group::Fit, u32::from(fits));
+    let expected_length = if fits { printed.len() } else { 0 };
+    let found_length = library::run(input, found.inner_mut());
+    compare_lengths(expected_length, found_length)
+        .and_then(|()| compare_bytes(&expected, found.inner()))
+        .and_then(|()| found.check())
+        .map_err(|difference| {
+            let (expected, found) = (shown(&expected), shown(found.inner()));
+            let sides = format!("  expected {expected}\n  found {found}");
+            format!(
+                "run in {length} bytes: {difference}\n  input {}\n{sides}",
+                shown(input)
+            )
+        })
+}
+
+pub fn answer(number: u32, first: u32, second: u32) -> Answer {
+    Answer {
+        number,
+        first,
+        second,
+    }
+}
+
+pub fn compare_answers(expected: Answer, found: Answer) -> Result<(), String> {
+    match expected == found {
+        true => Ok(()),
+        false => Err(format!("expected {expected:?}, found {found:?}")),
+    }
+}
+
+pub fn compare_lengths(expected: usize, found: usize) -> Result<(), String> {
+    match expected == found {
+        true => Ok(()),
+        false => Err(format!("expected length {expected}, found {found}")),
+    }
+}
+
+pub fn compare_bytes(expected: &[u8], found: &[u8]) -> Result<(), String> {
+    compare_lengths(expected.len(), found.len())?;
+    if expected == found {
+        return Ok(());
+    }
+    let differs = |&place: &usize| expected[place] != found[place];
+    let places: Vec<usize> = (0..expected.len()).filter(differs).collect();
+    let first = places[0];
+    Err(format!(
+        "{} bytes differ, first byte {first}: expected {}, found {}",
+        places.len(),
+        expected[first],
+        found[first]
+    ))
+}
+
+/// Bytes in a form that can be read, shortened.
+fn shown(bytes: &[u8]) -> String {
+    let most = bytes.len().min(600);
+    let more = if most < bytes.len() { "..." } else { "" };
+    let length = bytes.len();
+    format!(
+        "({length} bytes) \"{}\"{more}",
+        bytes[..most].escape_ascii()
+    )
+}
+
+#[cfg(test)]
+mod tests {
+    use super::*;
+    use crate::plans::{conforming, Size};
+
+    #[test]
+    fn changed_answers_are_reported() {
+        let right = answer(18, 3, 0);
+        assert!(compare_answers(right, right).is_ok());
+        for wrong in [answer(19, 3, 0), answer(18, 4, 0), answer(18, 3, 1)] {
+            assert!(compare_answers(right, wrong).is_err());
+        }
+        assert!(compare_lengths(5, 5).is_ok());
+        assert!(compare_lengths(5, 0).is_err());
+    }
+
+    #[test]
+    fn every_changed_byte_is_reported() {
+        let right = vec![7; CELL];
+        assert!(compare_bytes(&right, &right).is_ok());
+        for place in 0..CELL {
+            let mut wrong = right.clone();
+            wrong[place] ^= 1;
+            let report = compare_bytes(&right, &wrong).expect_err("a difference");
+            assert!(report.contains(&format!("first byte {place}:")), "{report}");
+        }
+        assert!(compare_bytes(&right, &right[1..]).is_err());
+    }
+
+    /// A difference in the state that the reference expects shows at the next call.
+    #[test]
+    fn changed_expectations_are_reported() {
+        let mut random = Random::of_case(1, 1);
+        let plan = conforming(&mut random, Size::Tiny);
+        let bytes = cell::encode(&plan, &Table::EMPTY);
+        let mut counts = Counts::default();
+        let mut sides = Sides::new(bytes.clone(), &mut counts);
+        assert!(sides.call(Call::Check).is_ok());
+        sides.plan.rank = [0; 32];
+        assert!(sides.call(Call::Check).is_err());
+        let mut sides = Sides::new(bytes.clone(), &mut counts);
+        sides.expected[5000] ^= 1;
+        assert!(sides.call(Call::Check).is_err());
+        let mut sides = Sides::new(bytes, &mut counts);
+        sides.found.inner_mut()[9107] ^= 1;
+        let report = sides.call(Call::Drain { budget: 0 });
+        assert!(report.is_err());
+    }
+}

@@ -1,0 +1,150 @@
+//! How often each published number occurred, and which never did.
+
+use crate::compare::Call;
+
+/// What answers a number.
+#[derive(Clone, Copy, Debug, PartialEq, Eq)]
+pub enum Group {
+    Text,
+    Load,
+    Advance,
+    Unload,
+    Check,
+    Drain,
+    /// From the output of whole runs: the P line, the Q line and the event lines.
+    RunPlan,
+    RunCheck,
+    RunEvent,
+    /// Whether the output of a run had room: 1 or 0.
+    Fit,
+}
+
+const GROUPS: usize = 10;
+const NUMBERS: usize = 42;
+
+#[derive(Clone, Debug)]
+pub struct Counts {
+    numbers: [[u64; NUMBERS]; GROUPS],
+}
+
+/// Numbers that must occur, by the name under which they are printed. Several groups are added.
+const REQUIRED: &[(&str, &[Group], &[usize])] = {
+    use Group::*;
+    &[
+        ("plan text", &[Text], &[0, 1, 2, 3, 4, 5, 6, 7, 9]),
+        (
+            "event",
+            &[Load, Advance, Unload],
+            &[0, 9, 11, 12, 13, 14, 15, 16, 17, 18, 19],
+        ),
+        ("event, load", &[Load], &[18, 19]),
+        ("event, advance", &[Advance], &[18, 19]),
+        ("check", &[Check], &[0, 9, 11, 21, 22, 23, 24, 25]),
+        ("drain", &[Drain], &[0, 9, 11, 12, 31, 32]),
+        ("run, P line", &[RunPlan], &[0, 1, 2, 3, 4, 5, 6, 7]),
+        ("run, Q line", &[RunCheck], &[0, 21, 22, 23, 24, 25]),
+        (
+            "run, event line",
+            &[RunEvent],
+            &[0, 11, 13, 14, 15, 16, 17, 18, 19, 41],
+        ),
+        ("run, output space (1: enough)", &[Fit], &[0, 1]),
+    ]
+};
+
+impl Default for Counts {
+    fn default() -> Counts {
+        Counts {
+            numbers: [[0; NUMBERS]; GROUPS],
+        }
+    }
+}
+
+impl Counts {
+    pub fn add(&mut self, group: Group, number: u32) {
+        self.numbers[group as usize][number as usize] += 1;
+    }
+
+    pub fn add_call(&mut self, call: Call, number: u32) {
+        let group = match call {
+            Call::Check => Group::Check,
+            Call::Load { .. } => Group::Load,
+            Call::Advance { .. } => Group::Advance,
+            Call::Unload { .. } => Group::Unload,
+            Call::Drain { .. } => Group::Drain,
+        };
+        self.add(group, number);
+    }
+
+    /// The numbers in the output of a whole run.
+    pub fn add_output(&mut self, output: &[u8]) {
+        let output = std::str::from_utf8(output).expect("the output is text");
+        for line in output.lines() {
+            let mut fields = line.split('\t');
+            let group = match fields.next() {
+                Some("P") => Group::RunPlan,
+                Some("Q") => Group::RunCheck,
+                _ => Group::RunEvent,
+            };
+            let number = fields.next().and_then(|field| field.parse().ok());
+            self.add(group, number.expect("every line has an answer"));
+        }
+    }
+
+    pub fn merge(&mut self, other: &Counts) {
+        let places = self.numbers.iter_mut().flatten();
+        for (place, more) in places.zip(other.numbers.iter().flatten()) {
+            *place += more;
+        }
+    }
+
+    fn required(&self) -> impl Iterator<Item = (&'static str, usize, u64)> + '_ {
+        REQUIRED.iter().flat_map(move |&(name, groups, numbers)| {
+            numbers.iter().map(move |&number| {
+                let counts = groups
+                    .iter()
+                    .map(|&group| self.numbers[group as usize][number]);
+                (name, number, counts.sum())
+            })
+        })
+    }
+
+    /// One line per group and number.
+    pub fn table(&self) -> String {
+        self.required()
+            .map(|(name, number, count)| format!("{name:<30} {number:>2} {count:>12}\n"))
+            .collect()
+    }
+
+    /// Group and number of those that never occurred.
+    pub fn missing(&self) -> Vec<String> {
+        self.required()
+            .filter(|&(_, _, count)| count == 0)
+            .map(|(name, number, _)| format!("{name}: {number} never occurred"))
+            .collect()
+    }
+}
+
+#[cfg(test)]
+mod tests {
+    use super::*;
+
+    #[test]
+    fn missing_numbers_are_named() {
+        let mut counts = Counts::default();
+        let all = counts.missing().len();
+        counts.add(Group::Advance, 19);
+        let missing = counts.missing();
+        assert_eq!(missing.len(), all - 2);
+        assert!(!missing.contains(&"event: 19 never occurred".to_string()));
+        assert!(missing.contains(&"event, load: 19 never occurred".to_string()));
+    }
+
+    #[test]
+    fn output_lines_are_counted() {
+        let mut counts = Counts::default();
+        counts.add_output(b"P\t0\t0\nQ\t24\t1\t0\n1\t41\t0\t0\n2\t41\t0\t0\n");
+        assert_eq!(counts.numbers[Group::RunEvent as usize][41], 2);
+        assert_eq!(counts.numbers[Group::RunCheck as usize][24], 1);
+    }
+}

@@ -1,0 +1,376 @@
+//! Plan texts: sound plans written out in many ways, damaged texts, and texts at the limits.
+
+use crate::plans::{self, Room, Size};
+use crate::random::Random;
+use reference::Plan;
+
+/// Lines without their LF.
+pub type Lines = Vec<Vec<u8>>;
+
+/// A letter and its numbers.
+type Record = (char, Vec<u32>);
+
+const LIMIT: usize = 65_536;
+
+/// Bytes that mean something in a text, or lie just outside of what it may hold.
+const BYTES: &[u8] = b"\t\n\r 0159#CRTSBAKELU!~/:@\x00\x1f\x7f\x80\xff";
+
+/// Numbers at the ends of ranges, and fields that are no numbers, parted by `|`.
+const FIELDS: &str = "0|1|2|3|15|16|17|31|32|33|64|65|127|128|129|254|255|256|257|511|512|65534|\
+    65535|65536|65537|99999|100000|4294967297||-1|+1| 1|1 |0x1|00001|00000|000001|1.0|A|00255";
+
+/// How a plan is written out.
+struct Style {
+    shuffled: bool,
+    zeros: bool,
+    /// Percentage of lines before which a comment or an empty line stands.
+    skipped: usize,
+}
+
+/// A text and, if it must be accepted, the plan it gives.
+pub struct Text {
+    pub bytes: Vec<u8>,
+    pub accepted: Option<Plan>,
+}
+
+/// A text of any kind.
+pub fn text(random: &mut Random) -> Text {
+    let refused = |bytes| Text {
+        bytes,
+        accepted: None,
+    };
+    match random.below(100) {
+        0..=29 => valid(random),
+        30..=84 => refused(damaged(random)),
+        85..=89 => refused(totals(random)),
+        90..=92 => at_limit(random),
+        93..=95 => {
+            let length = random.below(100);
+            refused(random.bytes(length))
+        }
+        _ => refused(alphabet(random)),
+    }
+}
+
+/// A sound plan written out; too long a text is not promised to be accepted.
+fn valid(random: &mut Random) -> Text {
+    let plan = plans::plan(random);
+    let bytes = join(&lines(random, &plan));
+    let fits = bytes.len() <= LIMIT;
+    Text {
+        bytes,
+        accepted: fits.then_some(plan),
+    }
+}
+
+/// The lines of a plan's text in a random style.
+pub fn lines(random: &mut Random, plan: &Plan) -> Lines {
+    let style = Style {
+        shuffled: random.chance(60),
+        zeros: random.chance(20),
+        skipped: random.pick(&[0, 0, 0, 5, 30]),
+    };
+    let mut lines = Vec::new();
+    for mut section in sections(plan) {
+        if style.shuffled {
+            random.shuffle(&mut section);
+        }
+        for (letter, numbers) in section {
+            while random.chance(style.skipped) {
+                lines.push(skipped(random));
+            }
+            lines.push(record(random, &style, letter, &numbers));
+        }
+    }
+    while random.chance(style.skipped) {
+        lines.push(skipped(random));
+    }
+    lines
+}
+
+/// The records of each section in number order.
+fn sections(plan: &Plan) -> [Vec<Record>; 7] {
+    let counts = [plan.resources, plan.types, plan.rows].map(u32::from);
+    let bounds = (1..).zip(&plan.bound[..usize::from(plan.rows)]);
+    [
+        vec![('C', counts.to_vec())],
+        given('R', &plan.capacity),
+        given('T', &plan.lengths),
+        demands(plan),
+        bounds
+            .map(|(row, &bound)| ('B', vec![row, bound.into()]))
+            .collect(),
+        weights(plan),
+        given('K', &plan.rank),
+    ]
+}
+
+fn given(letter: char, values: &[u8]) -> Vec<Record> {
+    let held = (1..).zip(values).filter(|(_, &value)| value != 0);
+    held.map(|(number, &value)| (letter, vec![number, value.into()]))
+        .collect()
+}
+
+fn demands(plan: &Plan) -> Vec<Record> {
+    let mut records = Vec::new();
+    for (stage, (job_type, number)) in plan.stages.iter().zip(stage_numbers(plan)) {
+        let held = (1..).zip(&stage.demand).filter(|(_, &units)| units != 0);
+        for (resource, &units) in held {
+            records.push(('S', vec![job_type, number, resource, units.into()]));
+        }
+    }
+    records
+}
+
+fn weights(plan: &Plan) -> Vec<Record> {
+    let mut records = Vec::new();
+    for (stage, (job_type, number)) in plan.stages.iter().zip(stage_numbers(plan)) {
+        let held = (1..).zip(&stage.weight).filter(|(_, &weight)| weight != 0);
+        for (row, &weight) in held {
+            records.push(('A', vec![row, job_type, number, weight.into()]));
+        }
+    }
+    records
+}
+
+/// Type and stage of each stage in the plan's order.
+fn stage_numbers(plan: &Plan) -> Vec<(u32, u32)> {
+    let types = (1u32..).zip(plan.lengths);
+    types
+        .flat_map(|(job_type, length)| (1..=u32::from(length)).map(move |stage| (job_type, stage)))
+        .collect()
+}
+
+fn record(random: &mut Random, style: &Style, letter: char, numbers: &[u32]) -> Vec<u8> {
+    let mut line = vec![letter as u8];
+    for number in numbers {
+        line.push(b'\t');
+        let width = if style.zeros { random.between(1, 5) } else { 1 };
+        line.extend(format!("{number:0width$}").bytes());
+    }
+    line
+}
+
+/// An empty line or a comment.
+pub fn skipped(random: &mut Random) -> Vec<u8> {
+    random
+        .pick(&[&b""[..], b"#", b"# a comment", b"#\tC\t1\t1\t0", b"##~ "])
+        .to_vec()
+}
+
+pub fn join(lines: &[Vec<u8>]) -> Vec<u8> {
+    let mut bytes = Vec::new();
+    for line in lines {
+        bytes.extend_from_slice(line);
+        bytes.push(b'\n');
+    }
+    bytes
+}
+
+/// A text with one to three changes.
+pub fn damaged(random: &mut Random) -> Vec<u8> {
+    let plan = plans::plan(random);
+    let mut lines = lines(random, &plan);
+    let changes = random.pick(&[1, 1, 1, 2, 3]);
+    let in_lines = random.between(0, changes);
+    for _ in 0..in_lines {
+        change_lines(random, &plan, &mut lines);
+    }
+    let mut bytes = join(&lines);
+    for _ in in_lines..changes {
+        change_bytes(random, &mut bytes);
+    }
+    bytes
+}
+
+/// A line of some letter, so that short sections are met as often as long ones, or any line.
+fn pick_line(random: &mut Random, lines: &Lines) -> usize {
+    let letter = random.pick(b"CRTSBAK#");
+    let is_found = |&place: &usize| lines[place].first() == Some(&letter);
+    let found: Vec<usize> = (0..lines.len()).filter(is_found).collect();
+    match found.is_empty() || random.chance(20) {
+        true => random.below(lines.len()),
+        false => random.pick(&found),
+    }
+}
+
+/// One change of whole lines or of the fields of a line.
+fn change_lines(random: &mut Random, plan: &Plan, lines: &mut Lines) {
+    if lines.is_empty() {
+        return;
+    }
+    let place = pick_line(random, lines);
+    let other = random.below(lines.len());
+    let next = (place + 1) % lines.len();
+    match random.below(16) {
+        0..=2 => drop(lines.remove(place)),
+        3 => lines.insert(place + 1, lines[place].clone()),
+        4 => lines.insert(other, lines[place].clone()),
+        5 => {
+            let mut again = lines[place].clone();
+            change_fields(&mut again, |fields| put_in_range(random, plan, fields));
+            lines.insert(place + 1, again);
+        }
+        6 => lines.swap(place, other),
+        7 => lines.swap(place, next),
+        8 => lines.truncate(place),
+        9 => lines.insert(other.min(3), second_c(random)),
+        10 => {
+            let letter = random.pick(&["C", "R", "T", "S", "B", "A", "K", "E", "c", "", "RR"]);
+            change_fields(&mut lines[place], |fields| fields[0] = letter.into());
+        }
+        11 => change_fields(&mut lines[place], |fields| {
+            fields.insert(random.between(1, fields.len()), "1".into());
+        }),
+        12 => change_fields(&mut lines[place], |fields| {
+            fields.remove(random.below(fields.len()));
+        }),
+        13 => change_bytes(random, &mut lines[place]),
+        _ => change_fields(&mut lines[place], |fields| {
+            change_number(random, plan, fields)
+        }),
+    }
+}
+
+fn change_fields(line: &mut Vec<u8>, change: impl FnOnce(&mut Lines)) {
+    let parts = line.split(|&byte| byte == b'\t');
+    let mut fields: Lines = parts.map(<[u8]>::to_vec).collect();
+    change(&mut fields);
+    *line = fields.join(&b'\t');
+}
+
+/// Puts another number or no number in a field: mostly one at or just beyond an end of its range.
+fn change_number(random: &mut Random, plan: &Plan, fields: &mut Lines) {
+    if fields.len() < 2 {
+        return;
+    }
+    let place = random.between(1, fields.len() - 1);
+    let (low, high) = range(plan, fields, place);
+    let ends = [low.saturating_sub(1), low, high, high + 1];
+    fields[place] = match random.chance(75) {
+        true => random.pick(&ends).to_string().into(),
+        false => random.pick(&FIELDS.split('|').collect::<Vec<_>>()).into(),
+    };
+}
+
+/// Puts another number of its range in the last field.
+fn put_in_range(random: &mut Random, plan: &Plan, fields: &mut Lines) {
+    let place = fields.len() - 1;
+    if place > 0 {
+        let (low, high) = range(plan, fields, place);
+        fields[place] = random.pick(&[low, high]).to_string().into();
+    }
+}
+
+/// Lowest and highest number of a field of a record.
+fn range(plan: &Plan, fields: &Lines, place: usize) -> (usize, usize) {
+    let value = |place: usize| {
+        let text = fields
+            .get(place)
+            .map(|field| String::from_utf8_lossy(field));
+        text.and_then(|text| text.parse().ok()).unwrap_or(0usize)
+    };
+    let of = |values: &[u8], number: usize| {
+        let value = values.get(number.wrapping_sub(1));
+        usize::from(*value.unwrap_or(&1))
+    };
+    let letter = fields[0].first().copied().unwrap_or(b' ');
+    match (letter, place) {
+        (b'C', 2) => (1, 16),
+        (b'C', 3) => (0, 32),
+        (b'R' | b'K', 1) | (b'S', 3) => (1, plan.resources.into()),
+        (b'T' | b'S', 1) | (b'A', 2) => (1, plan.types.into()),
+        (b'B' | b'A', 1) => (1, plan.rows.into()),
+        (b'S', 2) => (1, of(&plan.lengths, value(1))),
+        (b'A', 3) => (1, of(&plan.lengths, value(2))),
+        (b'S', 4) => (1, of(&plan.capacity, value(3))),
+        (b'B', 2) => (0, 65_535),
+        (b'R' | b'K', 2) | (b'A', 4) => (1, 255),
+        _ => (1, 32),
+    }
+}
+
+fn second_c(random: &mut Random) -> Vec<u8> {
+    random
+        .pick(&["C\t1\t1\t0", "C\t32\t16\t32", "C\t33\t1\t0", "C\t1\t1", "C"])
+        .into()
+}
+
+/// One change of single bytes, or of where the text ends.
+pub fn change_bytes(random: &mut Random, bytes: &mut Vec<u8>) {
+    if bytes.is_empty() {
+        return;
+    }
+    let place = random.below(bytes.len());
+    let byte = match random.chance(80) {
+        true => random.pick(BYTES),
+        false => random.byte(),
+    };
+    match random.below(10) {
+        0..=3 => bytes[place] = byte,
+        4..=5 => bytes.insert(place, byte),
+        6..=7 => drop(bytes.remove(place)),
+        8 => bytes.truncate(place),
+        _ => drop(bytes.pop()),
+    }
+}
+
+/// Types whose stages together come near to 128, with repeated ones.
+fn totals(random: &mut Random) -> Vec<u8> {
+    let types = random.between(4, 16);
+    let mut lines: Lines = vec![format!("C\t1\t{types}\t0").into(), b"R\t1\t1".to_vec()];
+    let mut total = 0;
+    for job_type in 1..=types {
+        let left = 128usize.saturating_sub(total);
+        let exact = left.clamp(1, 32);
+        let length = random.pick(&[1, 32, 32, exact, (exact + 1).min(32), 33]);
+        lines.push(format!("T\t{job_type}\t{length}").into());
+        total += length;
+        if random.chance(10) {
+            let again = random.between(1, job_type);
+            let length = random.pick(&[0, 1, 32, 33]);
+            lines.push(format!("T\t{again}\t{length}").into());
+        }
+    }
+    join(&lines)
+}
+
+/// A text filled up with comments to 65,535, 65,536 or 65,537 bytes.
+fn at_limit(random: &mut Random) -> Text {
+    let size = random.pick(&[Size::Tiny, Size::Small, Size::Medium]);
+    let plan = plans::general(random, size, Room::Any);
+    let mut lines = lines(random, &plan);
+    let length = random.pick(&[LIMIT - 1, LIMIT, LIMIT, LIMIT + 1]);
+    let mut left = length - join(&lines).len();
+    while left > 0 {
+        let most = random.pick(&[1, 80, 40_000]);
+        let line = left.min(random.between(1, most));
+        left -= line;
+        let mut comment = vec![random.pick(b"\t ~x0"); line - 1];
+        if let Some(first) = comment.first_mut() {
+            *first = b'#';
+        }
+        let place = if left == 0 {
+            lines.len()
+        } else {
+            random.below(lines.len() + 1)
+        };
+        lines.insert(place, comment);
+    }
+    Text {
+        bytes: join(&lines),
+        accepted: (length <= LIMIT).then_some(plan),
+    }
+}
+
+/// Random characters of those that texts are made of.
+fn alphabet(random: &mut Random) -> Vec<u8> {
+    let length = random.below(120);
+    let mut bytes: Vec<u8> = (0..length)
+        .map(|_| random.pick(b"\t\t\t\n\n0112CRTSBAK#"))
+        .collect();
+    if random.chance(50) {
+        bytes.splice(0..0, *b"C\t2\t2\t1\n");
+    }
+    bytes
+}

@@ -1,0 +1,181 @@
+//! The worked runs of document 01 asked of the library itself, without the reference.
+
+use library::{cell, Answer, CELL, MAX_OUTPUT};
+use reference::{Job, Table};
+use std::collections::BTreeSet;
+
+const CROSSING: &str = "C 3 2 3/R 1 1/R 2 1/R 3 1/T 1 3/T 2 3/S 1 1 1 1/S 1 2 2 1/S 1 3 3 1/\
+    S 2 1 3 1/S 2 2 2 1/S 2 3 1 1/B 1 1/B 2 1/B 3 1/A 1 1 1 1/A 1 2 3 1/A 2 1 1 1/A 2 1 2 1/\
+    A 2 2 1 1/A 2 2 2 1/A 3 1 3 1/A 3 2 1 1/K 1 1/K 2 2/K 3 1/";
+const EQUATION_40: &str = "C 3 2 3/R 1 1/R 2 2/R 3 1/T 1 3/T 2 3/S 1 1 1 1/S 1 2 2 1/S 1 3 3 1/\
+    S 2 1 3 1/S 2 2 2 1/S 2 3 1 1/B 1 6/B 2 3/B 3 8/A 1 1 1 1/A 1 2 2 3/A 2 1 2 1/A 2 2 1 2/\
+    A 3 1 1 2/A 3 1 2 2/A 3 2 1 2/A 3 2 2 3/";
+const WITHOUT_ROWS: &str = "C 3 2 0/R 1 1/R 2 2/R 3 1/T 1 3/T 2 3/S 1 1 1 1/S 1 2 2 1/S 1 3 3 1/\
+    S 2 1 3 1/S 2 2 2 1/S 2 3 1 1/";
+
+/// The document's way of writing: a space is a tab and `/` a line end.
+fn tabbed(text: &str) -> Vec<u8> {
+    text.replace(' ', "\t").replace('/', "\n").into_bytes()
+}
+
+fn answer(number: u32, first: u32, second: u32) -> Answer {
+    Answer {
+        number,
+        first,
+        second,
+    }
+}
+
+fn read(text: &str) -> (Answer, Vec<u8>) {
+    let mut bytes = vec![0; CELL];
+    let answer = library::read_plan(&mut bytes, &tabbed(text));
+    (answer, bytes)
+}
+
+/// A cell with a plan and this many jobs at stages 1 to 3 of type 1, then of type 2.
+fn cell(text: &str, counts: [u8; 6]) -> Vec<u8> {
+    let (read, mut bytes) = read(text);
+    assert_eq!(read, answer(0, 0, 0));
+    let mut table = Table::EMPTY;
+    for (place, count) in counts.into_iter().enumerate() {
+        for _ in 0..count {
+            table.push(Job {
+                number: u32::from(table.count) + 1,
+                job_type: place as u32 / 3 + 1,
+                stage: place as u32 % 3 + 1,
+            });
+        }
+    }
+    cell::encode_table(&table, &mut bytes);
+    bytes
+}
+
+/// The jobs of a cell by type and stage.
+fn counts(bytes: &[u8]) -> [u8; 6] {
+    let mut counts = [0; 6];
+    for job in cell::decode_table(bytes).active() {
+        counts[(job.job_type as usize - 1) * 3 + job.stage as usize - 1] += 1;
+    }
+    counts
+}
+
+#[test]
+fn whole_run() {
+    let input = format!("{CROSSING}E/L 7 1/L 8 2/A 7/L 8 2/A 7/L 8 2/U 7/L 8 2/");
+    let printed =
+        "P 0 0/Q 0 0 0/1 0 0 1/2 19 2 1/3 0 0 1/4 19 2 1/5 0 0 1/6 18 3 1/7 0 0 0/8 0 0 1/";
+    let mut output = vec![0; MAX_OUTPUT];
+    let length = library::run(&tabbed(&input), &mut output);
+    assert_eq!(output[..length], tabbed(printed));
+}
+
+#[test]
+fn texts() {
+    let full = "C 1 5 0/R 1 1/T 1 32/T 2 32/T 3 32/T 4 32/";
+    let over = format!("{full}T 5 1/");
+    let cases = [
+        ("", 7, 1),
+        ("C 1 1 0/R 1 255/", 7, 3),
+        ("C 1 1 0/R 1 256/", 5, 2),
+        (full, 7, 7),
+        (&over, 5, 7),
+    ];
+    for (text, number, line) in cases {
+        assert_eq!(
+            read(text),
+            (answer(number, line, 0), vec![0; CELL]),
+            "{text}"
+        );
+    }
+}
+
+#[test]
+fn checks() {
+    let bound = CROSSING.replace("B 2 1/", "B 2 2/");
+    let weight = CROSSING.replace("A 1 2 3 1/", "A 1 2 3 1/A 1 1 2 1/");
+    let cases = [
+        (CROSSING, answer(0, 0, 0)),
+        (&bound, answer(25, 2, 0)),
+        (&weight, answer(24, 1, 0)),
+        (EQUATION_40, answer(21, 0, 0)),
+    ];
+    for (text, expected) in cases {
+        assert_eq!(library::check(&cell(text, [0; 6])), expected);
+    }
+}
+
+/// A state that keeps the rows, and three that break one row each: as tables, and as loads.
+#[test]
+fn equation_40() {
+    let mut kept = cell(EQUATION_40, [1, 0, 0, 1, 1, 0]);
+    assert_eq!(library::unload(&mut kept, 99), answer(14, 0, 0));
+    let cases = [
+        ([1, 1, 0, 0, 1, 0], 2, [1, 1, 0, 1, 1, 0], 3),
+        ([1, 2, 0, 0, 0, 0], 2, [1, 2, 0, 1, 0, 0], 2),
+        ([0, 0, 0, 0, 2, 0], 1, [1, 0, 0, 0, 2, 0], 1),
+    ];
+    for (before, job_type, after, row) in cases {
+        let mut bytes = cell(EQUATION_40, before);
+        assert_eq!(library::load(&mut bytes, 9, job_type), answer(19, row, 0));
+        let mut bytes = cell(EQUATION_40, after);
+        assert_eq!(library::unload(&mut bytes, 1), answer(12, 0, 0));
+    }
+}
+
+#[test]
+fn drains() {
+    let mut bytes = cell(CROSSING, [1, 0, 0, 0, 0, 0]);
+    assert_eq!(library::drain(&mut bytes, 2), answer(31, 2, 0));
+    assert_eq!(counts(&bytes), [0, 0, 1, 0, 0, 0]);
+    let mut bytes = cell(CROSSING, [1, 0, 0, 0, 0, 0]);
+    assert_eq!(library::drain(&mut bytes, 3), answer(0, 3, 0));
+    assert_eq!(library::drain(&mut bytes, 0), answer(0, 0, 0));
+    assert_eq!(bytes, cell(CROSSING, [0; 6]));
+    let mut bytes = cell(WITHOUT_ROWS, [1, 1, 0, 1, 1, 0]);
+    assert_eq!(library::drain(&mut bytes, 5), answer(32, 0, 0));
+    assert_eq!(bytes, cell(WITHOUT_ROWS, [1, 1, 0, 1, 1, 0]));
+}
+
+#[test]
+fn same_resource_advance() {
+    let (_, mut bytes) = read("C 1 1 0/R 1 1/T 1 2/S 1 1 1 1/S 1 2 1 1/");
+    assert_eq!(library::load(&mut bytes, 5, 1), answer(0, 0, 0));
+    assert_eq!(library::advance(&mut bytes, 5), answer(0, 0, 0));
+}
+
+#[test]
+fn full_table() {
+    let (_, mut bytes) = read("C 1 1 0/R 1 255/T 1 1/S 1 1 1 1/");
+    for job in 1..=64 {
+        assert_eq!(library::load(&mut bytes, job, 1), answer(0, 0, 0));
+    }
+    assert_eq!(library::load(&mut bytes, 65, 1), answer(16, 0, 0));
+    assert_eq!(library::load(&mut bytes, 65, 2), answer(15, 0, 0));
+    assert_eq!(library::load(&mut bytes, 64, 2), answer(14, 0, 0));
+}
+
+/// The 47 states of Table 1 in source document 003.
+#[test]
+fn reachable_states() {
+    let mut states = BTreeSet::new();
+    let mut open = vec![[0; 6]];
+    while let Some(state) = open.pop() {
+        if !states.insert(state) {
+            continue;
+        }
+        let before = cell(WITHOUT_ROWS, state);
+        let mut visit = |event: &dyn Fn(&mut [u8]) -> Answer| {
+            let mut after = before.clone();
+            if event(&mut after).number == 0 {
+                open.push(counts(&after));
+            }
+        };
+        visit(&|bytes| library::load(bytes, 99, 1));
+        visit(&|bytes| library::load(bytes, 99, 2));
+        for job in 1..=u32::from(before[cell::TABLE]) {
+            visit(&|bytes| library::advance(bytes, job));
+            visit(&|bytes| library::unload(bytes, job));
+        }
+    }
+    assert_eq!(states.len(), 47);
+}

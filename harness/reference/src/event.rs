@@ -1,0 +1,156 @@
+//! The events load, advance and unload (document 01, "Table and events").
+
+use crate::plan::{index, Plan};
+use crate::table::{Job, Table, Usage, MAX_JOBS, MAX_NUMBER};
+
+/// The answer to an event; the place is 0 except for 18 and 19.
+#[derive(Clone, Copy, Debug, PartialEq, Eq)]
+pub struct Answer {
+    pub number: u32,
+    pub place: u32,
+}
+
+#[derive(Clone, Copy, Debug, PartialEq, Eq)]
+pub enum Event {
+    Load { job: u32, job_type: u32 },
+    Advance { job: u32 },
+    Unload { job: u32 },
+}
+
+impl Event {
+    pub fn apply(self, plan: &Plan, table: &mut Table) -> Answer {
+        match self {
+            Event::Load { job, job_type } => load(plan, table, job, job_type),
+            Event::Advance { job } => advance(plan, table, job),
+            Event::Unload { job } => unload(plan, table, job),
+        }
+    }
+}
+
+pub fn load(plan: &Plan, table: &mut Table, job: u32, job_type: u32) -> Answer {
+    answer(try_load(plan, table, job, job_type))
+}
+
+pub fn advance(plan: &Plan, table: &mut Table, job: u32) -> Answer {
+    answer(try_advance(plan, table, job))
+}
+
+pub fn unload(plan: &Plan, table: &mut Table, job: u32) -> Answer {
+    answer(try_unload(plan, table, job))
+}
+
+fn answer(outcome: Result<(), Answer>) -> Answer {
+    match outcome {
+        Ok(()) => Answer {
+            number: 0,
+            place: 0,
+        },
+        Err(refusal) => refusal,
+    }
+}
+
+fn refusal(number: u32) -> Answer {
+    Answer { number, place: 0 }
+}
+
+fn try_load(plan: &Plan, table: &mut Table, number: u32, job_type: u32) -> Result<(), Answer> {
+    let mut usage = ask_agreement(plan, table)?;
+    if find(table, number)?.is_some() {
+        return Err(refusal(14));
+    }
+    index(job_type, plan.types).ok_or(refusal(15))?;
+    if table.active().len() == MAX_JOBS {
+        return Err(refusal(16));
+    }
+    let first = plan.stage_index(job_type, 1).ok_or(refusal(15))?;
+    usage.add(&plan.stages[first]);
+    ask_limits(plan, &usage)?;
+    table.push(Job {
+        number,
+        job_type,
+        stage: 1,
+    });
+    Ok(())
+}
+
+fn try_advance(plan: &Plan, table: &mut Table, number: u32) -> Result<(), Answer> {
+    let mut usage = ask_agreement(plan, table)?;
+    let position = find(table, number)?.ok_or(refusal(14))?;
+    advance_at(plan, table, &mut usage, position)
+}
+
+fn try_unload(plan: &Plan, table: &mut Table, number: u32) -> Result<(), Answer> {
+    let mut usage = ask_agreement(plan, table)?;
+    let position = find(table, number)?.ok_or(refusal(14))?;
+    unload_at(plan, table, &mut usage, position)
+}
+
+/// Questions 11 and 12.
+pub(crate) fn ask_agreement(plan: &Plan, table: &Table) -> Result<Usage, Answer> {
+    if !plan.is_sound() {
+        return Err(refusal(11));
+    }
+    table.usage(plan).ok_or(refusal(12))
+}
+
+/// Question 13; then where the job stands, if it is active.
+fn find(table: &Table, number: u32) -> Result<Option<usize>, Answer> {
+    if !(1..=MAX_NUMBER).contains(&number) {
+        return Err(refusal(13));
+    }
+    Ok(table.position(number))
+}
+
+/// Questions 17 to 19 of an advance in an agreeing table with this usage; both are written only
+/// if it is admitted. The old demand is given back before the new one is tested (Condition 3).
+pub(crate) fn advance_at(
+    plan: &Plan,
+    table: &mut Table,
+    usage: &mut Usage,
+    position: usize,
+) -> Result<(), Answer> {
+    let job = table.jobs[position];
+    let old = plan.stage_index(job.job_type, job.stage);
+    let new = plan.stage_index(job.job_type, job.stage + 1);
+    let (Some(old), Some(new)) = (old, new) else {
+        return Err(refusal(17));
+    };
+    let mut after = usage.clone();
+    after.subtract(&plan.stages[old]);
+    after.add(&plan.stages[new]);
+    ask_limits(plan, &after)?;
+    *usage = after;
+    table.jobs[position].stage += 1;
+    Ok(())
+}
+
+/// Question 17 of an unload in an agreeing table with this usage. It only gives back, so
+/// questions 18 and 19 cannot fail.
+pub(crate) fn unload_at(
+    plan: &Plan,
+    table: &mut Table,
+    usage: &mut Usage,
+    position: usize,
+) -> Result<(), Answer> {
+    let job = table.jobs[position];
+    if plan.stage_index(job.job_type, job.stage + 1).is_some() {
+        return Err(refusal(17));
+    }
+    let last = plan
+        .stage_index(job.job_type, job.stage)
+        .ok_or(refusal(17))?;
+    usage.subtract(&plan.stages[last]);
+    table.remove(position);
+    Ok(())
+}
+
+/// Questions 18 and 19 of what would be used afterwards.
+fn ask_limits(plan: &Plan, after: &Usage) -> Result<(), Answer> {
+    if let Some(place) = after.exceeded(plan) {
+        return Err(Answer { number: 18, place });
+    }
+    match after.broken(plan) {
+        Some(place) => Err(Answer { number: 19, place }),
+        None => Ok(()),
+    }
+}

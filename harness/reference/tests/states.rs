@@ -1,0 +1,115 @@
+//! The reachable states of the Equation 40 routes with capacities 1, 2, 1 (Table 1 of source
+//! document 003), and those that the rows of Equation 40 admit.
+
+use reference::text::read_plan;
+use reference::{Event, Job, Plan, Table};
+use std::collections::btree_map::{BTreeMap, Entry};
+use std::collections::BTreeSet;
+
+/// Jobs at stages 1 to 3 of type 1, then of type 2.
+type State = [u8; 6];
+
+const ROUTES: &str = "R 1 1/R 2 2/R 3 1/T 1 3/T 2 3/S 1 1 1 1/S 1 2 2 1/S 1 3 3 1/S 2 1 3 1/\
+    S 2 2 2 1/S 2 3 1 1/";
+const ROWS: &str = "B 1 6/B 2 3/B 3 8/A 1 1 1 1/A 1 2 2 3/A 2 1 2 1/A 2 2 1 2/A 3 1 1 2/\
+    A 3 1 2 2/A 3 2 1 2/A 3 2 2 3/";
+
+/// Table 1, states 0 to 46.
+const TABLE_1: &str = "000000 100000 000100 010000 100100 000010 110000 001000 010100 100010 \
+    000110 000001 020000 101000 110100 010010 100110 000020 000101 120000 011000 020100 110010 \
+    001010 010110 010001 100020 000120 000011 111000 120100 101010 110110 001001 010101 100120 \
+    000111 021000 011010 010011 000021 121000 111010 011001 001011 010111 000121";
+
+fn plan(text: &str) -> Plan {
+    let text = text.replace(' ', "\t").replace('/', "\n");
+    let reading = read_plan(text.as_bytes());
+    assert_eq!(reading.number, 0);
+    reading.plan
+}
+
+fn state(table: &Table) -> State {
+    let mut state = [0; 6];
+    for job in table.active() {
+        state[(job.job_type as usize - 1) * 3 + job.stage as usize - 1] += 1;
+    }
+    state
+}
+
+fn table(state: State) -> Table {
+    let mut table = Table::EMPTY;
+    for (place, count) in state.into_iter().enumerate() {
+        for _ in 0..count {
+            table.push(Job {
+                number: u32::from(table.count) + 1,
+                job_type: place as u32 / 3 + 1,
+                stage: place as u32 % 3 + 1,
+            });
+        }
+    }
+    table
+}
+
+/// The states after each event that is admitted in a state.
+fn successors(plan: &Plan, from: State) -> BTreeSet<State> {
+    let before = table(from);
+    let loads = (1..=2).map(|job_type| Event::Load { job: 99, job_type });
+    let moves = before.active().iter().map(|job| job.number);
+    let moves = moves.flat_map(|job| [Event::Advance { job }, Event::Unload { job }]);
+    let mut found = BTreeSet::new();
+    for event in loads.chain(moves) {
+        let mut after = before.clone();
+        if event.apply(plan, &mut after).number == 0 {
+            found.insert(state(&after));
+        }
+    }
+    found
+}
+
+/// Every state that is reached from the empty one, with its successors.
+fn reachable(plan: &Plan) -> BTreeMap<State, BTreeSet<State>> {
+    let mut graph = BTreeMap::new();
+    let mut open = vec![[0; 6]];
+    while let Some(next) = open.pop() {
+        if let Entry::Vacant(place) = graph.entry(next) {
+            let after = successors(plan, next);
+            open.extend(&after);
+            place.insert(after);
+        }
+    }
+    graph
+}
+
+fn table_1() -> BTreeSet<State> {
+    let parse = |word: &str| {
+        let digits: Vec<u8> = word.bytes().map(|digit| digit - b'0').collect();
+        State::try_from(digits).expect("six digits")
+    };
+    TABLE_1.split_whitespace().map(parse).collect()
+}
+
+#[test]
+fn states_without_rows() {
+    let graph = reachable(&plan(&format!("C 3 2 0/{ROUTES}")));
+    let states: BTreeSet<State> = graph.keys().copied().collect();
+    assert_eq!(states.len(), 47);
+    assert_eq!(states, table_1());
+}
+
+/// Source document 003: the rows of Equation 40 admit exactly the states from which the empty
+/// one can be reached.
+#[test]
+fn states_with_rows() {
+    let graph = reachable(&plan(&format!("C 3 2 0/{ROUTES}")));
+    let mut safe = BTreeSet::from([[0; 6]]);
+    loop {
+        let before = safe.len();
+        let more = graph.iter().filter(|(_, after)| !after.is_disjoint(&safe));
+        let more: Vec<State> = more.map(|(&state, _)| state).collect();
+        safe.extend(more);
+        if safe.len() == before {
+            break;
+        }
+    }
+    let admitted = reachable(&plan(&format!("C 3 2 3/{ROUTES}{ROWS}")));
+    assert_eq!(admitted.into_keys().collect::<BTreeSet<_>>(), safe);
+}
