@@ -96,5 +96,6 @@ pub extern "C" fn rilthoss_check(cell: &[u8]) -> u64
 pub extern "C" fn rilthoss_run(input: &[u8], space: &mut [u8]) -> usize
     ensures { λ r. ⌜ (r ≡ lengthFilled (output (now (input .entry))) (now (space .entry))) × (now (space .exit) ≡ filled (output (now (input .entry))) (now (space .entry))) ⌝ }
 {
-    answer_input(input, space)
+    let printed = answer_input(input, space);
+    printed
 }
