@@ -17,9 +17,9 @@ static void tell(const char *what, uint64_t answer)
 /* The bytes before the line `E`, or all of them. */
 static size_t plan_length(size_t length)
 {
-    for (size_t at = 0; at + 3 <= length; at++) {
-        if (memcmp(input + at, "\nE\n", 3) == 0) {
-            return at + 1;
+    for (size_t at = 0; at + 2 <= length; at++) {
+        if ((at == 0 || input[at - 1] == '\n') && memcmp(input + at, "E\n", 2) == 0) {
+            return at;
         }
     }
     return length;

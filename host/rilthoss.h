@@ -2,8 +2,8 @@
  *
  * A cell, that is a plan and a table of active jobs, lives in RILTHOSS_CELL bytes of the host's own memory. Any bytes may stand there:
  * what they hold is asked at each call and never trusted, so the host may store a cell, copy it or receive it from elsewhere.
- * Bytes that are all 0 hold the empty plan and no job. The functions keep nothing between calls and allocate nothing. A pointer is never
- * null, even with length 0, points to as many bytes as its length says, and the two of one call do not overlap.
+ * Bytes that are all 0 hold the empty plan and no job. The functions keep nothing between calls, allocate nothing and use some 64 KB of
+ * stack. A pointer is never null, even with length 0, points to as many bytes as its length says, and the two of one call do not overlap.
  */
 #ifndef RILTHOSS_H
 #define RILTHOSS_H
