@@ -1,9 +1,9 @@
--- A list of events at a cell is that list at its plan and its table, so what the emptying theorem says of the one holds of the other.
+-- An event, a drain and a list of events at a cell are those at its plan and its table, so what the emptying theorem says of the one holds of the other.
 use Prim.Native.Nat.{ℕ, zero, suc, _+_, _-_, _≤_, _<_}
 use native.Mathlib.Omega.{arith}
 use mathlib.Core.Bool.{Bool, true, false, cond}
 use mathlib.Core.List.{List, [], _∷_, _++_}
-use mathlib.Core.Logic.{⊎-elim}
+use mathlib.Core.Logic.{inl, inr, ⊎-elim}
 use mathlib.Core.Path.{_≡_, refl, sym, ap, subst, _∙_}
 use lib.Dec.{eqb}
 use lib.ListN.{length, replicate}
@@ -18,24 +18,28 @@ use Rattle.model.specs.declared.Check.the-variants as checks
 use Rattle.model.specs.declared.Check.the-variants.{Meets, NoRank, NotOneUnit, RowCount, WrongWeight, WrongBound}
 use Rattle.model.specs.Upstream.{check}
 use Rattle.model.proofs.Decide.{fails, decided, decides-eq, decides-le}
+use Rattle.model.proofs.Soundness.{decides-sound}
 use Rattle.model.proofs.Lists.{each-map, each-both, append-each}
 use Rattle.events.specs.JobList.{jobsOf, listOf, Agrees}
 use Rattle.events.specs.Events.{isAdmitted, answer, listAfter}
+use Rattle.events.specs.Drain.{Moves, stay, move, DrainRule}
 use Rattle.events.specs.declared.Event.{Event}
+use Rattle.events.specs.declared.ListDrained.{ListDrained}
 use Rattle.events.specs.declared.JobList.{JobList}
 use Rattle.events.specs.declared.Answer.{Answer}
 use Rattle.events.specs.declared.Answer.the-variants.{Admitted, UnsoundPlan, Disagreement, BadNumber, WrongActivity}
 use Rattle.events.specs.declared.Answer.the-variants.{UnknownType, Full, WrongStage, OverCapacity, RowBroken}
 use Rattle.events.proofs.Answers.{admitted-or-not, admitted-holds, list-refused, agrees-after}
-use Rattle.events.proofs.JobLists.{list-of-jobs}
+use Rattle.events.proofs.Drain.{drain-rule}
+use Rattle.events.proofs.JobLists.{list-of-jobs, decides-agrees}
 use Rattle.emptying.specs.Run.{listAfterAll, answers, admittedCount, run}
 use Rattle.emptying.specs.Emptying.{start, EmptyingRule}
 use Rattle.emptying.proofs.Emptying.{emptying-passed}
 use Rattle.cell_layout.specs.Layout.{cellSize, planIn, listIn, withList}
 use Rattle.cell_layout.specs.Fitting.{JobFits, ListFits}
-use Rattle.cell_layout.specs.HostAnswers.{packed, packedCheck, packedAnswer, cellAnswer, eventAnswer, eventCell, cellAfterAll, eventAnswers, zeros}
+use Rattle.cell_layout.specs.HostAnswers.{packed, packedCheck, packedAnswer, cellAnswer, cellDrain, eventAnswer, eventCell, drainCell, cellAfterAll, eventAnswers, zeros}
 use Rattle.cell_layout.specs.HostRule.{HostRule, HostTheorem}
-use Rattle.cell_layout.proofs.HostAnswers.{no-check, checked, event-answered, event-refused, event-admitted}
+use Rattle.cell_layout.proofs.HostAnswers.{no-check, checked, event-answered, event-refused, event-admitted, drain-still, drain-moved}
 use Rattle.cell_layout.proofs.ReadBack.{list-room, plan-kept, list-back}
 
 -- a table that agrees with a sound plan fits
@@ -62,17 +66,12 @@ pub record Follows (bytes next : List ℕ) (list : JobList) : Type 0 where
   pub plan : planIn next ≡ planIn bytes
   pub left : listIn next ≡ list
 
+written : (bytes : List ℕ) → cellSize ≤ length bytes → (l : JobList) → ListFits l → Follows bytes (withList l bytes) l
+written bytes h l fits = record { room = list-room bytes h l; plan = plan-kept bytes h l; left = list-back bytes h l fits }
+
 module _ (bytes : List ℕ) (h : cellSize ≤ length bytes) (e : Event) where
   abbrev list : JobList
   list = listAfter (planIn bytes) (listIn bytes) e
-
-  written : ListFits list → Follows bytes (withList list bytes) list
-  written fits =
-      record {
-        room = list-room bytes h list;
-        plan = plan-kept bytes h list;
-        left = list-back bytes h list fits;
-      }
 
   pub event-follows : Follows bytes (eventCell bytes e) list
   event-follows = ⊎-elim admitted refused (admitted-or-not (cellAnswer bytes e))
@@ -81,12 +80,42 @@ module _ (bytes : List ℕ) (h : cellSize ≤ length bytes) (e : Event) where
       admitted a =
           let c = admitted-holds (planIn bytes) (listIn bytes) e a in
           let fits = agreeing-fits (planIn bytes) list (c .0) (agrees-after (planIn bytes) (listIn bytes) e (c .0) (c .1 .0)) in
-          subst (λ next. Follows bytes next list) (event-admitted bytes h e a .1) (written fits)
+          subst (λ next. Follows bytes next list) (event-admitted bytes h e a .1) (written bytes h list fits)
 
       refused : isAdmitted (cellAnswer bytes e) ≡ false → Follows bytes (eventCell bytes e) list
       refused r =
           subst (λ next. Follows bytes next list) (event-refused bytes h e r .1)
           (record { room = refl; plan = refl; left = sym (list-refused (planIn bytes) (listIn bytes) e r) })
+
+-- a drain: its moves keep agreement, so the list that it ends with fits
+moves-agree : (p : Plan) → Sound p → {t u : JobList} {n : ℕ} → Moves p t n u → Agrees p t → Agrees p u
+moves-agree p sound stay h = h
+moves-agree p sound (move {t} e first rest) h = moves-agree p sound rest (agrees-after p t e sound h)
+
+none-made : (p : Plan) {t u : JobList} {n : ℕ} → Moves p t n u → n ≤ 0 → t ≡ u
+none-made p stay h = refl
+none-made p (move e first rest) h = absurd (omega arith)
+
+pub drain-follows : (bytes : List ℕ) → cellSize ≤ length bytes → (budget : ℕ) → Follows bytes (drainCell bytes budget) (cellDrain bytes budget .list)
+drain-follows bytes h budget = ⊎-elim moved still (decided (decides-le 1 (d .moves)))
+  where
+    d : ListDrained
+    d = cellDrain bytes budget
+
+    rule : DrainRule (planIn bytes) (listIn bytes) budget d
+    rule = drain-rule (planIn bytes) (listIn bytes) budget
+
+    moved : 1 ≤ d .moves → Follows bytes (drainCell bytes budget) (d .list)
+    moved some =
+        let sound = ⊎-elim (λ s. s) (λ no. absurd (omega (arith, rule .unmoved (inl no) .0))) (decided (decides-sound (planIn bytes))) in
+        let agrees = ⊎-elim (λ s. s) (λ no. absurd (omega (arith, rule .unmoved (inr no) .0))) (decided (decides-agrees (planIn bytes) (listIn bytes))) in
+        let fits = agreeing-fits (planIn bytes) (d .list) sound (moves-agree (planIn bytes) sound (rule .moves) agrees) in
+        subst (λ next. Follows bytes next (d .list)) (drain-moved bytes h budget some .1) (written bytes h (d .list) fits)
+
+    still : ¬ (1 ≤ d .moves) → Follows bytes (drainCell bytes budget) (d .list)
+    still none =
+        subst (λ next. Follows bytes next (d .list)) (drain-still bytes h budget (omega arith) .1)
+        (record { room = refl; plan = refl; left = none-made (planIn bytes) (rule .moves) (omega arith) })
 
 -- a whole list of them
 pub events-follow : (bytes : List ℕ) → cellSize ≤ length bytes → (es : List Event)

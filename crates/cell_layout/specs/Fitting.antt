@@ -1,5 +1,5 @@
--- Values that the bytes of a cell can hold: as many entries as there is room for, and each number in its bytes. Every plan and job list
--- of the program fits.
+-- Values that the bytes of a cell can hold: as many entries as there is room for, and each number in its bytes. The plan of every text
+-- fits (`read-fits`), and every list that agrees with a sound plan (`agreeing-fits`); a count above 255 does not.
 use Prim.Native.Nat.{ℕ, _<_}
 use mathlib.Core.Path.{_≡_}
 use lib.ListN.{length}

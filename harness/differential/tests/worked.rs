@@ -1,22 +1,12 @@
 //! The worked runs of document 01 asked of the library itself, without the reference.
 
 use library::{cell, Answer, CELL, MAX_OUTPUT};
-use reference::{Job, Table};
 use std::collections::BTreeSet;
 
-const CROSSING: &str = "C 3 2 3/R 1 1/R 2 1/R 3 1/T 1 3/T 2 3/S 1 1 1 1/S 1 2 2 1/S 1 3 3 1/\
-    S 2 1 3 1/S 2 2 2 1/S 2 3 1 1/B 1 1/B 2 1/B 3 1/A 1 1 1 1/A 1 2 3 1/A 2 1 1 1/A 2 1 2 1/\
-    A 2 2 1 1/A 2 2 2 1/A 3 1 3 1/A 3 2 1 1/K 1 1/K 2 2/K 3 1/";
-const EQUATION_40: &str = "C 3 2 3/R 1 1/R 2 2/R 3 1/T 1 3/T 2 3/S 1 1 1 1/S 1 2 2 1/S 1 3 3 1/\
-    S 2 1 3 1/S 2 2 2 1/S 2 3 1 1/B 1 6/B 2 3/B 3 8/A 1 1 1 1/A 1 2 2 3/A 2 1 2 1/A 2 2 1 2/\
-    A 3 1 1 2/A 3 1 2 2/A 3 2 1 2/A 3 2 2 3/";
-const WITHOUT_ROWS: &str = "C 3 2 0/R 1 1/R 2 2/R 3 1/T 1 3/T 2 3/S 1 1 1 1/S 1 2 2 1/S 1 3 3 1/\
-    S 2 1 3 1/S 2 2 2 1/S 2 3 1 1/";
+#[path = "../../reference/tests/document/mod.rs"]
+mod document;
 
-/// The document's way of writing: a space is a tab and `/` a line end.
-fn tabbed(text: &str) -> Vec<u8> {
-    text.replace(' ', "\t").replace('/', "\n").into_bytes()
-}
+use document::{tabbed, table, CROSSING, EQUATION_40, WITHOUT_ROWS};
 
 fn answer(number: u32, first: u32, second: u32) -> Answer {
     Answer {
@@ -36,17 +26,7 @@ fn read(text: &str) -> (Answer, Vec<u8>) {
 fn cell(text: &str, counts: [u8; 6]) -> Vec<u8> {
     let (read, mut bytes) = read(text);
     assert_eq!(read, answer(0, 0, 0));
-    let mut table = Table::EMPTY;
-    for (place, count) in counts.into_iter().enumerate() {
-        for _ in 0..count {
-            table.push(Job {
-                number: u32::from(table.count) + 1,
-                job_type: place as u32 / 3 + 1,
-                stage: place as u32 % 3 + 1,
-            });
-        }
-    }
-    cell::encode_table(&table, &mut bytes);
+    cell::encode_table(&table(counts), &mut bytes);
     bytes
 }
 

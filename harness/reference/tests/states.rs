@@ -1,18 +1,16 @@
 //! The reachable states of the Equation 40 routes with capacities 1, 2, 1 (Table 1 of source
 //! document 003), and those that the rows of Equation 40 admit.
 
+mod document;
+
+use document::{tabbed, table, EQUATION_40, WITHOUT_ROWS};
 use reference::text::read_plan;
-use reference::{Event, Job, Plan, Table};
+use reference::{Event, Plan, Table};
 use std::collections::btree_map::{BTreeMap, Entry};
 use std::collections::BTreeSet;
 
 /// Jobs at stages 1 to 3 of type 1, then of type 2.
 type State = [u8; 6];
-
-const ROUTES: &str = "R 1 1/R 2 2/R 3 1/T 1 3/T 2 3/S 1 1 1 1/S 1 2 2 1/S 1 3 3 1/S 2 1 3 1/\
-    S 2 2 2 1/S 2 3 1 1/";
-const ROWS: &str = "B 1 6/B 2 3/B 3 8/A 1 1 1 1/A 1 2 2 3/A 2 1 2 1/A 2 2 1 2/A 3 1 1 2/\
-    A 3 1 2 2/A 3 2 1 2/A 3 2 2 3/";
 
 /// Table 1, states 0 to 46.
 const TABLE_1: &str = "000000 100000 000100 010000 100100 000010 110000 001000 010100 100010 \
@@ -21,8 +19,8 @@ const TABLE_1: &str = "000000 100000 000100 010000 100100 000010 110000 001000 0
     000111 021000 011010 010011 000021 121000 111010 011001 001011 010111 000121";
 
 fn plan(text: &str) -> Plan {
-    let text = text.replace(' ', "\t").replace('/', "\n");
-    let reading = read_plan(text.as_bytes());
+    let text = tabbed(text);
+    let reading = read_plan(&text);
     assert_eq!(reading.number, 0);
     reading.plan
 }
@@ -33,20 +31,6 @@ fn state(table: &Table) -> State {
         state[(job.job_type as usize - 1) * 3 + job.stage as usize - 1] += 1;
     }
     state
-}
-
-fn table(state: State) -> Table {
-    let mut table = Table::EMPTY;
-    for (place, count) in state.into_iter().enumerate() {
-        for _ in 0..count {
-            table.push(Job {
-                number: u32::from(table.count) + 1,
-                job_type: place as u32 / 3 + 1,
-                stage: place as u32 % 3 + 1,
-            });
-        }
-    }
-    table
 }
 
 /// The states after each event that is admitted in a state.
@@ -89,7 +73,7 @@ fn table_1() -> BTreeSet<State> {
 
 #[test]
 fn states_without_rows() {
-    let graph = reachable(&plan(&format!("C 3 2 0/{ROUTES}")));
+    let graph = reachable(&plan(WITHOUT_ROWS));
     let states: BTreeSet<State> = graph.keys().copied().collect();
     assert_eq!(states.len(), 47);
     assert_eq!(states, table_1());
@@ -99,7 +83,7 @@ fn states_without_rows() {
 /// one can be reached.
 #[test]
 fn states_with_rows() {
-    let graph = reachable(&plan(&format!("C 3 2 0/{ROUTES}")));
+    let graph = reachable(&plan(WITHOUT_ROWS));
     let mut safe = BTreeSet::from([[0; 6]]);
     loop {
         let before = safe.len();
@@ -110,6 +94,6 @@ fn states_with_rows() {
             break;
         }
     }
-    let admitted = reachable(&plan(&format!("C 3 2 3/{ROUTES}{ROWS}")));
+    let admitted = reachable(&plan(EQUATION_40));
     assert_eq!(admitted.into_keys().collect::<BTreeSet<_>>(), safe);
 }

@@ -7,21 +7,9 @@ use reference::text::read_plan;
 use reference::upstream::{check, Check};
 use reference::{Job, Plan, Table};
 
-const CROSSING: &str = "C 3 2 3/R 1 1/R 2 1/R 3 1/T 1 3/T 2 3/S 1 1 1 1/S 1 2 2 1/S 1 3 3 1/\
-    S 2 1 3 1/S 2 2 2 1/S 2 3 1 1/B 1 1/B 2 1/B 3 1/A 1 1 1 1/A 1 2 3 1/A 2 1 1 1/A 2 1 2 1/\
-    A 2 2 1 1/A 2 2 2 1/A 3 1 3 1/A 3 2 1 1/K 1 1/K 2 2/K 3 1/";
+mod document;
 
-/// The crossing routes with capacities 1, 2, 1: with the rows of Equation 40, and without rows.
-const EQUATION_40: &str = "C 3 2 3/R 1 1/R 2 2/R 3 1/T 1 3/T 2 3/S 1 1 1 1/S 1 2 2 1/S 1 3 3 1/\
-    S 2 1 3 1/S 2 2 2 1/S 2 3 1 1/B 1 6/B 2 3/B 3 8/A 1 1 1 1/A 1 2 2 3/A 2 1 2 1/A 2 2 1 2/\
-    A 3 1 1 2/A 3 1 2 2/A 3 2 1 2/A 3 2 2 3/";
-const WITHOUT_ROWS: &str = "C 3 2 0/R 1 1/R 2 2/R 3 1/T 1 3/T 2 3/S 1 1 1 1/S 1 2 2 1/S 1 3 3 1/\
-    S 2 1 3 1/S 2 2 2 1/S 2 3 1 1/";
-
-/// The document's way of writing: a space is a tab and `/` a line end.
-fn tabbed(text: &str) -> Vec<u8> {
-    text.replace(' ', "\t").replace('/', "\n").into_bytes()
-}
+use document::{tabbed, table, CROSSING, EQUATION_40, WITHOUT_ROWS};
 
 fn plan(text: &str) -> Plan {
     let text = tabbed(text);
@@ -38,21 +26,6 @@ fn read(text: &str) -> (u32, u32) {
         assert_eq!(reading.plan, Plan::EMPTY);
     }
     (reading.number, reading.line)
-}
-
-/// A table with this many jobs at stages 1 to 3 of type 1, then of type 2.
-fn table(counts: [usize; 6]) -> Table {
-    let mut table = Table::EMPTY;
-    for (place, count) in counts.into_iter().enumerate() {
-        for _ in 0..count {
-            table.push(Job {
-                number: u32::from(table.count) + 1,
-                job_type: place as u32 / 3 + 1,
-                stage: place as u32 % 3 + 1,
-            });
-        }
-    }
-    table
 }
 
 fn answer(number: u32, place: u32) -> Answer {
