@@ -1,4 +1,4 @@
-/* A host in C: it reads a plan, checks it, moves jobs and drains the cell. Argument: an input of `cellmoves`, whose plan it takes. */
+/* A host in C: it reads a plan, checks it, moves jobs, pulls one and drains the cell. Argument: an input of `cellmoves`, whose plan it takes. */
 #include "rilthoss.h"
 
 #include <inttypes.h>
@@ -45,6 +45,9 @@ int main(int argc, char **argv)
     tell("load 8, type 2", rilthoss_load(cell, sizeof cell, 8, 2));
     tell("advance 7", rilthoss_advance(cell, sizeof cell, 7));
     tell("unload 7", rilthoss_unload(cell, sizeof cell, 7));
+    tell("pull 7", rilthoss_pull(cell, sizeof cell, 7));
+    tell("load 8, type 2", rilthoss_load(cell, sizeof cell, 8, 2));
+    tell("pull 7", rilthoss_pull(cell, sizeof cell, 7));
     tell("drain by 1", rilthoss_drain(cell, sizeof cell, 1));
     tell("drain", rilthoss_drain(cell, sizeof cell, UINT32_MAX));
     tell("too short", rilthoss_load(cell, sizeof cell - 1, 7, 1));

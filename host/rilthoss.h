@@ -48,10 +48,11 @@ uint64_t rilthoss_read_plan(uint8_t *cell, size_t cell_length, const uint8_t *te
 uint64_t rilthoss_check(const uint8_t *cell, size_t cell_length);
 
 /* The events. Number: 0 admitted, or 11 to 19; place: for 18 the lowest resource exceeded, for 19 the lowest row broken. An admitted event
- * changes the jobs, a refused one no byte. */
+ * changes the jobs, a refused one no byte. A pull takes out a job that is scrapped, at whichever stage it is: 0, or 11 to 14. */
 uint64_t rilthoss_load(uint8_t *cell, size_t cell_length, uint32_t job, uint32_t type);
 uint64_t rilthoss_advance(uint8_t *cell, size_t cell_length, uint32_t job);
 uint64_t rilthoss_unload(uint8_t *cell, size_t cell_length, uint32_t job);
+uint64_t rilthoss_pull(uint8_t *cell, size_t cell_length, uint32_t job);
 
 /* Makes moves, each of the earliest loaded job for which one is admitted, at most as many as the budget. Number: 0 no job is left, 31 the
  * budget is spent, 32 no move is admitted, or 11, 12; place: the moves made, which stay made under 31 and 32. */

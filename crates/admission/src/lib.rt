@@ -92,6 +92,19 @@ impl Table {
         }
     }
 
+    pub fn pull(self, p: Plan, job: u32) -> Outcome
+        ensures { λ r. ⌜ r ≡ outcome p self (Event.Pull job) ⌝ }
+    {
+        let list = self.list;
+        let pulled = admit::pull(list, p, job);
+        let answer = pulled.answer;
+        let list = pulled.list;
+        Outcome {
+            answer,
+            table: Table { list },
+        }
+    }
+
     // Any event, by the method that it names.
     pub fn handle(self, p: Plan, event: Event) -> Outcome
         ensures { λ r. ⌜ r ≡ outcome p self event ⌝ }
@@ -100,6 +113,7 @@ impl Table {
             Event::Load { job, kind } => self.load(p, job, kind),
             Event::Advance(job) => self.advance(p, job),
             Event::Unload(job) => self.unload(p, job),
+            Event::Pull(job) => self.pull(p, job),
         }
     }
 

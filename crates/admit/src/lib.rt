@@ -1,9 +1,9 @@
-// The three events on a job list: the questions in their order, and the list afterwards as a new value.
+// The events on a job list: the questions in their order, and the list afterwards as a new value.
 ghost use mathlib.Core.Path.{_≡_};
 ghost use Rattle.model.specs.Plan.{noStage};
 ghost use Rattle.events.specs.Events.{listOutcome};
-ghost use Rattle.parts.specs.Parts.{refusal};
-ghost use Rattle.admit.specs.MoveAsked.{MoveAsked};
+ghost use Rattle.parts.specs.Parts.{refusal, removalFrom};
+ghost use Rattle.admit.specs.ActiveAsked.{ActiveAsked};
 use agreement::agree;
 use events::Answer;
 use events::Event;
@@ -18,8 +18,9 @@ use model::Plan;
 use model::Stage;
 use parts::Agreement;
 use parts::Found;
+use parts::StageAsked;
+use questions::active_answer;
 use questions::load_answer;
-use questions::move_answer;
 use questions::stage_met;
 use stages::length_of;
 use stages::stage_index;
@@ -34,24 +35,24 @@ fn no_stage() -> Stage
     }
 }
 
-// Questions 11 to 14 and 17 of a move, with the agreement and the job that it names.
+// Questions 11 to 14 and 17 of an event whose job must be active, with the agreement and the job that it names.
 pub(crate) struct Asked {
     pub answer: Answer,
     pub agreement: Agreement,
     pub found: Found,
 }
 
-fn ask_move(p: Plan, t: JobList, job: u32, unloads: bool) -> Asked
-    ensures { λ r. ⌜ MoveAsked p t job unloads r ⌝ }
+fn ask_active(p: Plan, t: JobList, job: u32, wanted: StageAsked) -> Asked
+    ensures { λ r. ⌜ ActiveAsked p t job wanted r ⌝ }
 {
     let agreement = agree(p, t);
     let first = agreement.answer;
     let found = look_up(t, job);
     let j = found.job;
     let lengths = p.lengths;
-    let met = stage_met(j.stage, length_of(&lengths, j.kind), unloads);
+    let met = stage_met(j.stage, length_of(&lengths, j.kind), wanted);
     Asked {
-        answer: move_answer(first, t.count, found.at, job, met),
+        answer: active_answer(first, t.count, found.at, job, met),
         agreement,
         found,
     }
@@ -94,7 +95,7 @@ pub fn load(t: JobList, p: Plan, job: u32, kind: u32) -> ListOutcome
 pub fn advance(t: JobList, p: Plan, job: u32) -> ListOutcome
     ensures { λ r. ⌜ r ≡ listOutcome p t (Event.Advance job) ⌝ }
 {
-    let asked = ask_move(p, t, job, false);
+    let asked = ask_active(p, t, job, StageAsked::Next);
     let first = asked.answer;
     let Answer::Admitted = first else {
         return refused(first, t);
@@ -111,10 +112,11 @@ pub fn advance(t: JobList, p: Plan, job: u32) -> ListOutcome
     let Answer::Admitted = last else {
         return refused(last, t);
     };
+    let stage = j.stage + 1;
     let next = Job {
         number: j.number,
         kind: j.kind,
-        stage: j.stage + 1,
+        stage,
     };
     ListOutcome {
         answer: last,
@@ -122,18 +124,33 @@ pub fn advance(t: JobList, p: Plan, job: u32) -> ListOutcome
     }
 }
 
-// An unload only gives back, so 18 and 19 need not be asked.
-pub fn unload(t: JobList, p: Plan, job: u32) -> ListOutcome
-    ensures { λ r. ⌜ r ≡ listOutcome p t (Event.Unload job) ⌝ }
+// The job at this position goes, where the questions were met. It only gives back, so 18 and 19 need not be asked.
+fn removal(t: JobList, first: Answer, at: usize) -> ListOutcome
+    ensures { λ r. ⌜ r ≡ removalFrom t first at ⌝ }
 {
-    let asked = ask_move(p, t, job, true);
-    let first = asked.answer;
     let Answer::Admitted = first else {
         return refused(first, t);
     };
-    let found = asked.found;
     ListOutcome {
         answer: first,
-        list: without_job(t, found.at),
+        list: without_job(t, at),
     }
+}
+
+pub fn unload(t: JobList, p: Plan, job: u32) -> ListOutcome
+    ensures { λ r. ⌜ r ≡ listOutcome p t (Event.Unload job) ⌝ }
+{
+    let asked = ask_active(p, t, job, StageAsked::Last);
+    let first = asked.answer;
+    let found = asked.found;
+    removal(t, first, found.at)
+}
+
+pub fn pull(t: JobList, p: Plan, job: u32) -> ListOutcome
+    ensures { λ r. ⌜ r ≡ listOutcome p t (Event.Pull job) ⌝ }
+{
+    let asked = ask_active(p, t, job, StageAsked::Any);
+    let first = asked.answer;
+    let found = asked.found;
+    removal(t, first, found.at)
 }

@@ -26,7 +26,7 @@ use Rattle.emptying.specs.Run.{State, run, listAfterAll, answers, admitt
 use Rattle.emptying.specs.Emptying.{SomeMove, start, EmptyingRule, EmptyingTheorem}
 use Rattle.events.specs.declared.JobList.{JobList}
 use Rattle.events.specs.declared.Event.{Event}
-use Rattle.events.specs.declared.Event.the-variants.{Load, Advance, Unload}
+use Rattle.events.specs.declared.Event.the-variants.{Load, Advance, Unload, Pull}
 use Rattle.events.specs.declared.Answer.the-variants.{Admitted}
 use Rattle.events.proofs.JobLists.{agreeing-list}
 use Rattle.events.proofs.Answers.{admitted-or-not, admitted-holds, list-refused}
@@ -73,6 +73,7 @@ move-active : (p : Plan) (js : List Job) (e : Event) → IsMove e → AllHold (o
 move-active p js (Load n t) move h e = move
 move-active p js (Advance n) move h e = none-active (subst (Active n) e (h .1 .0))
 move-active p js (Unload n) move h e = none-active (subst (Active n) e (h .1 .0))
+move-active p js (Pull n) move h e = move
 
 some-move : (p : Plan) → UpstreamRule p → (t : JobList) → Agrees p t → SomeMove p t ↔ (jobsOf t ≢ [])
 some-move p rule t agrees = (

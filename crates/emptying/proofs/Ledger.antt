@@ -7,7 +7,7 @@ use mathlib.Core.List.{List}
 use mathlib.Core.Logic.{⊎-elim}
 use mathlib.Core.Path.{_≡_, refl, sym, ap, subst, _∙_}
 use Rattle.model.specs.Plan.{demandOf}
-use Rattle.model.specs.Jobs.{unitsHeld, HasNext, advancedAt, Active, jobOf, loadedJob, advancedJob, AtStage, Agreeing}
+use Rattle.model.specs.Jobs.{unitsHeld, HasNext, advancedAt, removed, Active, jobOf, loadedJob, advancedJob, AtStage, Agreeing}
 use Rattle.model.specs.Soundness.{Sound}
 use Rattle.model.specs.declared.Plan.{Plan}
 use Rattle.model.specs.declared.Job.{Job}
@@ -16,10 +16,10 @@ use Rattle.model.proofs.Sums.{over-stages-added, over-stages-removed, over-stag
 use Rattle.model.proofs.Jobs.{decides-active, Found}
 use Rattle.events.specs.JobList.{jobsOf, listOf, Agrees}
 use Rattle.events.specs.Events.{jobsAfter, ownConditions, answer, isAdmitted, listAfter}
-use Rattle.emptying.specs.Ledger.{Ledger, demandAt, takes, gives, written, entered}
+use Rattle.emptying.specs.Ledger.{Ledger, demandAt, takes, gives, struck, written, entered}
 use Rattle.emptying.specs.Run.{State}
 use Rattle.events.specs.declared.Event.{Event}
-use Rattle.events.specs.declared.Event.the-variants.{Load, Advance, Unload}
+use Rattle.events.specs.declared.Event.the-variants.{Load, Advance, Unload, Pull}
 use Rattle.events.specs.declared.Answer.the-variants.{Admitted}
 use Rattle.events.proofs.JobLists.{jobs-of-list}
 use Rattle.events.proofs.Answers.{names, staged-job, admitted-or-not, admitted-holds, list-admitted, list-refused, agrees-after}
@@ -43,6 +43,19 @@ module _ (p : Plan) (sound : Sound p) (l : Ledger) (agreeing : Agreeing p (l .jo
     jobs : new .jobs ≡ jobsAfter p (l .jobs) e
     balance : Balanced p new
 
+  -- an event that strikes an active job, whatever its stage
+  job-struck : (e : Event) (n : ℕ) → Active n (l .jobs) → removed n (l .jobs) ≡ jobsAfter p (l .jobs) e → Written e (struck p l n)
+  job-struck e n a leads = rw (passes (decides-active n (l .jobs)) a) (record { jobs = leads; balance = balance })
+    where
+      found : Found p n (l .jobs) a
+      found = names p sound (l .jobs) agreeing n a
+
+      balance : (r : ℕ) → l .taken r ≡ l .given r + demandAt p (jobOf n (l .jobs)) r + unitsHeld p r (removed n (l .jobs))
+      balance r =
+          let here = staged-job p sound (l .jobs) agreeing n a in
+          let left = over-stages-removed p (demandOf p r) (a .here .before) (a .here .after) (a .here .item) here in
+          rw (found .removal, found .job) (omega (arith, balanced r, ap (unitsHeld p r) (a .here .whole), left))
+
   event-written : (e : Event) → AllHold (ownConditions p (l .jobs) e) → Written e (written p l e)
   event-written (Load n t) h =
       let stage = sound .lengths t (h .1 .1 .0) in
@@ -63,19 +76,8 @@ module _ (p : Plan) (sound : Sound p) (l : Ledger) (agreeing : Agreeing p (l .jo
       balance r =
           rw (found .advance, found .job)
           (omega (arith, balanced r, advance-units p a (staged-job p sound (l .jobs) agreeing n a) (h .1 .1 .0 a) r))
-  event-written (Unload n) h = rw (passes (decides-active n (l .jobs)) a) (record { jobs = refl; balance = balance })
-    where
-      a : Active n (l .jobs)
-      a = h .1 .0
-
-      found : Found p n (l .jobs) a
-      found = names p sound (l .jobs) agreeing n a
-
-      balance : (r : ℕ) → l .taken r ≡ l .given r + demandAt p (jobOf n (l .jobs)) r + unitsHeld p r (jobsAfter p (l .jobs) (Unload n))
-      balance r =
-          let here = staged-job p sound (l .jobs) agreeing n a in
-          let removed = over-stages-removed p (demandOf p r) (a .here .before) (a .here .after) (a .here .item) here in
-          rw (found .unload, found .job) (omega (arith, balanced r, ap (unitsHeld p r) (a .here .whole), removed))
+  event-written (Unload n) h = job-struck (Unload n) n (h .1 .0) refl
+  event-written (Pull n) h = job-struck (Pull n) n (h .1 .0) refl
 
 -- a table and a ledger that hold the same jobs, balanced
 pub record Consistent (p : Plan) (s : State) : Type 0 where

@@ -3,12 +3,12 @@ use Prim.Native.Nat.{ℕ, _+_, _-_}
 use mathlib.Core.Bool.{cond}
 use mathlib.Core.List.{List, [], _∷_}
 use Rattle.model.specs.Plan.{demandOf}
-use Rattle.model.specs.Jobs.{isActive, jobOf, advancedJob, loaded, advanced, unloaded}
+use Rattle.model.specs.Jobs.{isActive, jobOf, advancedJob, loaded, advanced, removed}
 use Rattle.model.specs.declared.Plan.{Plan}
 use Rattle.model.specs.declared.Job.{Job}
 use Rattle.events.specs.Events.{isAdmitted}
 use Rattle.events.specs.declared.Event.{Event}
-use Rattle.events.specs.declared.Event.the-variants.{Load, Advance, Unload}
+use Rattle.events.specs.declared.Event.the-variants.{Load, Advance, Unload, Pull}
 use Rattle.events.specs.declared.Answer.{Answer}
 
 -- the jobs with type and stage, in order; per resource the units taken and given back so far, without limit
@@ -31,7 +31,18 @@ takes p j r = demandAt p (advancedJob p j) r - demandAt p j r
 abbrev pub gives : Plan → Job → ℕ → ℕ
 gives p j r = demandAt p j r - demandAt p (advancedJob p j) r
 
--- an admitted event is written down; a move of a job that the ledger lacks changes nothing
+-- a job struck, and the whole demand of its stage given back
+abbrev pub struck : Plan → Ledger → ℕ → Ledger
+struck p l n =
+    cond (isActive n (l .jobs))
+    (record {
+      jobs = removed n (l .jobs);
+      taken = l .taken;
+      given = λ (r : ℕ). l .given r + demandAt p (jobOf n (l .jobs)) r;
+    })
+    l
+
+-- an admitted event is written down; a move or a pull of a job that the ledger lacks changes nothing
 abbrev pub written : Plan → Ledger → Event → Ledger
 written p l (Load n t) =
     record { jobs = loaded n t (l .jobs); taken = λ (r : ℕ). l .taken r + demandOf p r t 1; given = l .given }
@@ -43,14 +54,8 @@ written p l (Advance n) =
       given = λ (r : ℕ). l .given r + gives p (jobOf n (l .jobs)) r;
     })
     l
-written p l (Unload n) =
-    cond (isActive n (l .jobs))
-    (record {
-      jobs = unloaded n (l .jobs);
-      taken = l .taken;
-      given = λ (r : ℕ). l .given r + demandAt p (jobOf n (l .jobs)) r;
-    })
-    l
+written p l (Unload n) = struck p l n
+written p l (Pull n) = struck p l n
 
 -- a refused event changes nothing
 unfoldable pub entered : Plan → Ledger → Event → Answer → Ledger

@@ -56,7 +56,8 @@ fn outcome(p: Plan, t: Table, letter: u8, job: u32, kind: u32) -> Outcome {
     match letter {
         b'l' => t.load(p, job, kind),
         b'a' => t.advance(p, job),
-        _ => t.unload(p, job),
+        b'u' => t.unload(p, job),
+        _ => t.pull(p, job),
     }
 }
 
@@ -99,8 +100,8 @@ fn is_same_drained(p: Plan, t: Table) -> bool {
     same(t, d.table)
 }
 
-// Soundness; the answers of the check, the agreement, a load of job 8, an advance and an unload of job 7, and a drain, with
-// its moves; and 1 where each of these four handed the same table back.
+// Soundness; the answers of the check, the agreement, a load of job 8, an advance, an unload and a pull of job 7, and a drain,
+// with its moves; and 1 where each of these five handed the same table back.
 fn entrances(p: Plan, t: Table) -> Table {
     number(is_sound(p) as u64);
     short(check_number(upstream_check(p)));
@@ -108,8 +109,9 @@ fn entrances(p: Plan, t: Table) -> Table {
     let load = is_same_after(p, t, b'l', 8);
     let advance = is_same_after(p, t, b'a', 7);
     let unload = is_same_after(p, t, b'u', 7);
+    let pull = is_same_after(p, t, b'x', 7);
     let drain = is_same_drained(p, t);
-    number((load & advance & unload & drain) as u64);
+    number((load & advance & unload & pull & drain) as u64);
     t
 }
 
@@ -124,7 +126,7 @@ fn list(p: Plan, t: Table, letters: &[u8], x: u32, y: u32, z: u32, w: u32) -> Ta
     ran.table
 }
 
-// l job type; a job; u job; d budget; m jobs; r and the letters of events, then two jobs and two types.
+// l job type; a job; u job; x job; d budget; m jobs; r and the letters of events, then two jobs and two types.
 pub(crate) fn asked(
     p: Plan,
     t: Table,
@@ -136,7 +138,7 @@ pub(crate) fn asked(
     w: u32,
 ) -> Table {
     match letter {
-        b'l' | b'a' | b'u' => event(p, t, letter, x, y),
+        b'l' | b'a' | b'u' | b'x' => event(p, t, letter, x, y),
         b'd' => drain(p, t, x),
         b'm' => loaded(p, t, x),
         b'q' => check(p, t),

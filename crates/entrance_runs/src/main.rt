@@ -1,11 +1,11 @@
-// Document 01's runs at the entrances, and both sides of every limit of a plan and a table. The cases are the lines of
+// The papers' runs at the entrances, and both sides of every limit of a plan and a table. The cases are the lines of
 // standard input; the first byte of a line is its letter, and numbers follow, each after a tab.
 //
 //   C R T S B A K  set a plan, in plan.rt     X      the first stages alike    J N    set a table, in table.rt
 //   E              empties both               >      keeps both
 //   =              ends the line of output, takes back what was kept, and writes the rest of its line
 //   +              the same, but goes on from what is set    :      only writes the rest of its line
-//   l a u d q e r  ask, in ask.rt             m      loads many jobs    f      the stage of the earliest loaded
+//   l a u x d q e r  ask, in ask.rt           m      loads many jobs    f      the stage of the earliest loaded
 //
 // Nothing is asked of what is set: a number is taken modulo what its field holds, and an index modulo its array. A missing
 // number is 0, and a line with another letter does nothing. Input beyond 65,536 bytes is not read.

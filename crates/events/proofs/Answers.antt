@@ -12,7 +12,7 @@ use Rattle.model.specs.Numbers.{InRange, Each, Distinct}
 use Rattle.model.specs.Questions.{FirstFailure}
 use Rattle.model.specs.Plan.{lengthOf}
 use Rattle.model.specs.Jobs.{KeepsCapacities, KeepsRows, Exceeded, Broken, exceeded, broken, Active, jobOf, loadedJob, advancedJob}
-use Rattle.model.specs.Jobs.{HasNext, IsLast, advancedAt, removedAt, advanced, unloaded, Numbered, AtStage, Agreeing, numbers}
+use Rattle.model.specs.Jobs.{HasNext, IsLast, advancedAt, removedAt, advanced, removed, Numbered, AtStage, Agreeing, numbers}
 use Rattle.model.specs.Soundness.{Sound}
 use Rattle.model.specs.declared.Plan.{Plan}
 use Rattle.model.specs.declared.Job.{Job}
@@ -29,7 +29,7 @@ use Rattle.events.specs.Events.{keptQuestions, ownQuestions, firstQuesti
 use Rattle.events.specs.Events.{agreement, answer, isAdmitted, listAfter, Judged, answerNumbers, Says}
 use Rattle.events.specs.declared.JobList.{JobList}
 use Rattle.events.specs.declared.Event.{Event}
-use Rattle.events.specs.declared.Event.the-variants.{Load, Advance, Unload}
+use Rattle.events.specs.declared.Event.the-variants.{Load, Advance, Unload, Pull}
 use Rattle.events.specs.declared.Answer.{Answer}
 use Rattle.events.specs.declared.Answer.the-variants.{Admitted, UnsoundPlan, Disagreement, BadNumber, WrongActivity}
 use Rattle.events.specs.declared.Answer.the-variants.{UnknownType, Full, WrongStage, OverCapacity, RowBroken}
@@ -40,6 +40,7 @@ abbrev TypeInPlan : Plan → Event → Type 0
 TypeInPlan p (Load n t) = InRange t (p .types)
 TypeInPlan p (Advance n) = Unit {0}
 TypeInPlan p (Unload n) = Unit {0}
+TypeInPlan p (Pull n) = Unit {0}
 
 -- a list of jobs that agrees with a sound plan
 module _ (p : Plan) (sound : Sound p) (js : List Job) (agreeing : Agreeing p js) where
@@ -48,15 +49,15 @@ module _ (p : Plan) (sound : Sound p) (js : List Job) (agreeing : Agreeing p js)
     parts : (P : Job → Type 0) → Each P js → Each P (a .here .before ++ a .here .item ∷ a .here .after)
     parts P h = subst (Each P) (a .here .whole) h
 
-    -- and of the job named, and of the jobs after its advance and its unload
+    -- and of the job named, and of the jobs after its advance and its removal
     at-job : (P : Job → Type 0) → Each P js → P (a .here .item)
     at-job P h = each-at P (a .here .before) (a .here .item) (a .here .after) (parts P h)
 
     each-advanced : (P : Job → Type 0) → P (advancedJob p (a .here .item)) → Each P js → Each P (advancedAt p (a .here))
     each-advanced P moved h = each-moved P (a .here .before) (a .here .item) (advancedJob p (a .here .item)) (a .here .after) moved (parts P h)
 
-    each-unloaded : (P : Job → Type 0) → Each P js → Each P (removedAt (a .here))
-    each-unloaded P h = each-removed P (a .here .before) (a .here .item) (a .here .after) (parts P h)
+    each-left : (P : Job → Type 0) → Each P js → Each P (removedAt (a .here))
+    each-left P h = each-removed P (a .here .before) (a .here .item) (a .here .after) (parts P h)
 
     length-whole : length js ≡ length (a .here .before) + suc (length (a .here .after))
     length-whole = ap length (a .here .whole) ∙ length-append (a .here .before) (a .here .item ∷ a .here .after)
@@ -70,6 +71,26 @@ module _ (p : Plan) (sound : Sound p) (js : List Job) (agreeing : Agreeing p js)
     whole-distinct : Distinct (numbers (a .here .before ++ a .here .item ∷ a .here .after))
     whole-distinct = subst (λ (is : List Job). Distinct (numbers is)) (a .here .whole) (agreeing .distinct)
 
+    -- the list without the job, for an unload and a pull alike: it has no more jobs than before, they agree with the plan as they
+    -- did, and what was within a capacity or a bound stays within it
+    left-length : length js ≤ maxJobs → length (removed n js) ≤ maxJobs
+    left-length few =
+        rw (names .removal) (omega (arith, length-append (a .here .before) (a .here .after), length-whole))
+
+    left-numbered : Each Numbered (removed n js)
+    left-numbered = rw (names .removal) (each-left Numbered (agreeing .numbered))
+
+    left-distinct : Distinct (numbers (removed n js))
+    left-distinct = rw (names .removal) (distinct-removed (a .here .before) (a .here .after) (a .here .item) whole-distinct)
+
+    left-keeps : KeepsCapacities p (removedAt (a .here)) × KeepsRows p (removedAt (a .here))
+    left-keeps =
+        let capacities = subst (KeepsCapacities p) (a .here .whole) (agreeing .capacities) in
+        let rows = subst (KeepsRows p) (a .here .whole) (agreeing .rows) in (
+          removed-keeps-capacities p (a .here .before) (a .here .after) (a .here .item) staged-job capacities,
+          removed-keeps-rows p (a .here .before) (a .here .after) (a .here .item) staged-job rows,
+        )
+
     -- a number names one job, so what is asked of the job found is asked of each that has the number
     decides-named : (P : Job → Type 0) {b : Bool} → Decides (P (jobOf n js)) b → Decides ((c : Active n js) → P (c .here .item)) b
     decides-named P d = decides-iff (λ h c. subst P (found p c (agreeing .distinct) .job) h) (λ h. subst⁻¹ P (names .job) (h a)) d
@@ -78,13 +99,17 @@ module _ (p : Plan) (sound : Sound p) (js : List Job) (agreeing : Agreeing p js)
   leads-after : (e : Event) {next : List Job} → LeadsTo p js e next → next ≡ jobsAfter p js e
   leads-after (Load n t) h = h
   leads-after (Advance n) h = h .2 ∙ sym (names n (h .0) .advance)
-  leads-after (Unload n) h = h .2 ∙ sym (names n (h .0) .unload)
+  leads-after (Unload n) h = h .2 ∙ sym (names n (h .0) .removal)
+  leads-after (Pull n) h = h .1 ∙ sym (names n (h .0) .removal)
 
   leads-advance : (n : ℕ) (a : Active n js) → HasNext p (a .here .item) → LeadsTo p js (Advance n) (advanced p n js)
   leads-advance n a h = (a, h, names n a .advance)
 
-  leads-unload : (n : ℕ) (a : Active n js) → IsLast p (a .here .item) → LeadsTo p js (Unload n) (unloaded n js)
-  leads-unload n a h = (a, h, names n a .unload)
+  leads-unload : (n : ℕ) (a : Active n js) → IsLast p (a .here .item) → LeadsTo p js (Unload n) (removed n js)
+  leads-unload n a h = (a, h, names n a .removal)
+
+  leads-pull : (n : ℕ) (a : Active n js) → LeadsTo p js (Pull n) (removed n js)
+  leads-pull n a = (a, names n a .removal)
 
   staged-after : (e : Event) (next : List Job) → TypeInPlan p e → LeadsTo p js e next → Each (AtStage p) next
   staged-after (Load n t) next type h =
@@ -93,7 +118,9 @@ module _ (p : Plan) (sound : Sound p) (js : List Job) (agreeing : Agreeing p js)
       let a = h .0 in
       rw (h .2) (each-advanced n a (AtStage p) (staged-job n a .0, omega (arith, h .1)) (agreeing .staged))
   staged-after (Unload n) next type h =
-      rw (h .2) (each-unloaded n (h .0) (AtStage p) (agreeing .staged))
+      rw (h .2) (each-left n (h .0) (AtStage p) (agreeing .staged))
+  staged-after (Pull n) next type h =
+      rw (h .1) (each-left n (h .0) (AtStage p) (agreeing .staged))
 
   -- the last two questions: what holds of the list computed holds of the list named
   module _ (e : Event) (type : TypeInPlan p e) (leads : LeadsTo p js e (jobsAfter p js e)) where
@@ -137,22 +164,29 @@ module _ (p : Plan) (sound : Sound p) (js : List Job) (agreeing : Agreeing p js)
       asked (decides-active n js) (λ _. refl) refl λ a.
       asked (decides-named n a (IsLast p) (decides-eq (jobOf n js .stage) (lengthOf p (jobOf n js .kind)))) (λ _. refl) refl λ h.
       kept-answers (Unload n) tt (leads-unload n a (h a))
+  own-answers (Pull n) =
+      asked (decides-range n maxNumber) (λ _. refl) refl λ _.
+      asked (decides-active n js) (λ _. refl) refl λ a.
+      kept-answers (Pull n) tt (leads-pull n a)
 
   -- where its own questions are met an event leads to the jobs that the model names, which agree with the plan
   pub own-leads : (e : Event) → AllHold (ownConditions p js e) → LeadsTo p js e (jobsAfter p js e)
   own-leads (Load n t) h = refl
   own-leads (Advance n) h = leads-advance n (h .1 .0) (h .1 .1 .0 (h .1 .0))
   own-leads (Unload n) h = leads-unload n (h .1 .0) (h .1 .1 .0 (h .1 .0))
+  own-leads (Pull n) h = leads-pull n (h .1 .0)
 
   own-type : (e : Event) → AllHold (ownConditions p js e) → TypeInPlan p e
   own-type (Load n t) h = h .1 .1 .0
   own-type (Advance n) h = tt
   own-type (Unload n) h = tt
+  own-type (Pull n) h = tt
 
   own-kept : (e : Event) → AllHold (ownConditions p js e) → AllHold (keptConditions p js e)
   own-kept (Load n t) h = h .1 .1 .1 .1
   own-kept (Advance n) h = h .1 .1 .1
   own-kept (Unload n) h = h .1 .1 .1
+  own-kept (Pull n) h = h .1 .1
 
   own-length : (e : Event) → AllHold (ownConditions p js e) → length js ≤ maxJobs → length (jobsAfter p js e) ≤ maxJobs
   own-length (Load n t) h few = omega (arith, length-append js (loadedJob n t ∷ []), h .1 .1 .1 .0)
@@ -160,27 +194,24 @@ module _ (p : Plan) (sound : Sound p) (js : List Job) (agreeing : Agreeing p js)
       let a = h .1 .0 in
       rw (names n a .advance)
       (omega (arith, length-append (a .here .before) (advancedJob p (a .here .item) ∷ a .here .after), length-whole n a))
-  own-length (Unload n) h few =
-      let a = h .1 .0 in
-      rw (names n a .unload) (omega (arith, length-append (a .here .before) (a .here .after), length-whole n a))
+  own-length (Unload n) h few = left-length n (h .1 .0) few
+  own-length (Pull n) h few = left-length n (h .1 .0) few
 
   own-numbered : (e : Event) → AllHold (ownConditions p js e) → Each Numbered (jobsAfter p js e)
   own-numbered (Load n t) h = append-each Numbered js (loadedJob n t ∷ []) (agreeing .numbered) (h .0, tt)
   own-numbered (Advance n) h =
       let a = h .1 .0 in
       rw (names n a .advance) (each-advanced n a Numbered (at-job n a Numbered (agreeing .numbered)) (agreeing .numbered))
-  own-numbered (Unload n) h =
-      let a = h .1 .0 in
-      rw (names n a .unload) (each-unloaded n a Numbered (agreeing .numbered))
+  own-numbered (Unload n) h = left-numbered n (h .1 .0)
+  own-numbered (Pull n) h = left-numbered n (h .1 .0)
 
   own-distinct : (e : Event) → AllHold (ownConditions p js e) → Distinct (numbers (jobsAfter p js e))
   own-distinct (Load n t) h = distinct-added js (loadedJob n t) (h .1 .0) (agreeing .distinct)
   own-distinct (Advance n) h =
       let a = h .1 .0 in
       rw (names n a .advance) (distinct-moved (a .here .before) (a .here .after) (a .here .item) (advancedJob p (a .here .item)) refl (whole-distinct n a))
-  own-distinct (Unload n) h =
-      let a = h .1 .0 in
-      rw (names n a .unload) (distinct-removed (a .here .before) (a .here .after) (a .here .item) (whole-distinct n a))
+  own-distinct (Unload n) h = left-distinct n (h .1 .0)
+  own-distinct (Pull n) h = left-distinct n (h .1 .0)
 
   own-agreeing : (e : Event) → AllHold (ownConditions p js e) → Agreeing p (jobsAfter p js e)
   own-agreeing e h =
@@ -218,23 +249,18 @@ module _ (p : Plan) (sound : Sound p) (js : List Job) (agreeing : Agreeing p js)
       (active-range n a, (a, (λ b. subst (HasNext p) (same-job n (l .leads .0) b) (l .leads .1), allowed-kept (Advance n) l)))
   allowed-own (Unload n) a l =
       (active-range n a, (a, (λ b. subst (IsLast p) (same-job n (l .leads .0) b) (l .leads .1), allowed-kept (Unload n) l)))
+  allowed-own (Pull n) a l = (active-range n a, (a, allowed-kept (Pull n) l))
 
-  -- what an unload leaves keeps what the whole list kept
-  unload-keeps : (n : ℕ) {next : List Job} → LeadsTo p js (Unload n) next → KeepsCapacities p next × KeepsRows p next
-  unload-keeps n h =
-      let a = h .0 in
-      let here = staged-job n a in
-      let capacities = subst (KeepsCapacities p) (a .here .whole) (agreeing .capacities) in
-      let rows = subst (KeepsRows p) (a .here .whole) (agreeing .rows) in (
-        rw (h .2) (removed-keeps-capacities p (a .here .before) (a .here .after) (a .here .item) here capacities),
-        rw (h .2) (removed-keeps-rows p (a .here .before) (a .here .after) (a .here .item) here rows),
-      )
-
-  -- a job at its last stage can be unloaded
+  -- a job at its last stage can be unloaded, and one at any stage pulled
   unload-allowed : (n : ℕ) (a : Active n js) → IsLast p (a .here .item) → Allowed p js (Unload n)
   unload-allowed n a last =
-      let kept = unload-keeps n (a, last, refl) in
+      let kept = left-keeps n a in
       record { next = removedAt (a .here); leads = (a, last, refl); capacities = kept .0; rows = kept .1 }
+
+  pull-allowed : (n : ℕ) → Active n js → Allowed p js (Pull n)
+  pull-allowed n a =
+      let kept = left-keeps n a in
+      record { next = removedAt (a .here); leads = (a, refl); capacities = kept .0; rows = kept .1 }
 
 pub event-answers : (p : Plan) (t : JobList) (e : Event) → Answers isAdmitted (eventQuestions p t e) (eventConditions p t e)
 event-answers p t e =
@@ -321,14 +347,32 @@ pub unload-admitted : (p : Plan) (t : JobList) (n : ℕ) → Sound p → Agrees 
 unload-admitted p t n sound agrees a last =
     judged p t (Unload n) sound agrees a .exact .1 (unload-allowed p sound (jobsOf t) (agrees .jobs) n a last)
 
+pub pull-admitted : (p : Plan) (t : JobList) (n : ℕ) → Sound p → Agrees p t → Active n (jobsOf t) → answer p t (Pull n) ≡ Admitted
+pull-admitted p t n sound agrees a = judged p t (Pull n) sound agrees a .exact .1 (pull-allowed p sound (jobsOf t) (agrees .jobs) n a)
+
+-- one question more: the answer is below k where its refusal is, and that of the questions after it
+below : (a : Answer) (k number : ℕ) {Q R : Type 0} → number < k → ((¬ Q) × Says number 0 a) ⊎ (Q × R)
+    → (Q × R → answerNumbers a .0 < k) → answerNumbers a .0 < k
+below a k number low (inl failed) later = rw (failed .1) low
+below a k number low (inr met) later = later met
+
 -- an unload meets neither 18 nor 19
 pub unload-below-18 : (p : Plan) (t : JobList) (n : ℕ) → answerNumbers (answer p t (Unload n)) .0 < 18
 unload-below-18 p t n =
-    ⊎-elim (λ no. rw (no .1) (omega arith)) (λ sound.
-    ⊎-elim (λ no. rw (no .1) (omega arith)) (λ agrees.
-    ⊎-elim (λ no. rw (no .1) (omega arith)) (λ range.
-    ⊎-elim (λ no. rw (no .1) (omega arith)) (λ active.
-    ⊎-elim (λ no. rw (no .1) (omega arith)) (λ last.
-    ⊎-elim (λ no. absurd (no .0 (λ next k. unload-keeps p (sound .0) (jobsOf t) (agrees .0 .jobs) n k .0))) (λ capacities.
-    ⊎-elim (λ no. absurd (no .0 (λ next k. unload-keeps p (sound .0) (jobsOf t) (agrees .0 .jobs) n k .1))) (λ rows. rw (rows .1) (omega arith))
-    (capacities .1)) (last .1)) (active .1)) (range .1)) (agrees .1)) (sound .1)) (answer-first-failure p t (Unload n))
+    let a = answer p t (Unload n) in
+    below a 18 11 (omega arith) (answer-first-failure p t (Unload n)) λ sound.
+    below a 18 12 (omega arith) (sound .1) λ agrees.
+    below a 18 13 (omega arith) (agrees .1) λ range.
+    below a 18 14 (omega arith) (range .1) λ active.
+    below a 18 17 (omega arith) (active .1) λ last.
+    rw (unload-admitted p t n (sound .0) (agrees .0) (active .0) (last .0 (active .0))) (omega arith)
+
+-- nor does a pull, which is asked nothing after 14 that could fail
+pub pull-below-15 : (p : Plan) (t : JobList) (n : ℕ) → answerNumbers (answer p t (Pull n)) .0 < 15
+pull-below-15 p t n =
+    let a = answer p t (Pull n) in
+    below a 15 11 (omega arith) (answer-first-failure p t (Pull n)) λ sound.
+    below a 15 12 (omega arith) (sound .1) λ agrees.
+    below a 15 13 (omega arith) (agrees .1) λ range.
+    below a 15 14 (omega arith) (range .1) λ active.
+    rw (pull-admitted p t n (sound .0) (agrees .0) (active .0)) (omega arith)

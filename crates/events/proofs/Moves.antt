@@ -22,7 +22,7 @@ use Rattle.events.specs.Events.{IsMove, LeadsTo, jobsAfter, answer, list
 use Rattle.events.specs.Drain.{stagesLeft, stagesBefore, moveOf, Movable}
 use Rattle.events.specs.declared.JobList.{JobList}
 use Rattle.events.specs.declared.Event.{Event}
-use Rattle.events.specs.declared.Event.the-variants.{Load, Advance, Unload}
+use Rattle.events.specs.declared.Event.the-variants.{Load, Advance, Unload, Pull}
 use Rattle.events.specs.declared.Answer.the-variants.{Admitted}
 use Rattle.events.proofs.JobLists.{jobs-of-list}
 use Rattle.events.proofs.Answers.{own-leads, admitted-holds, list-admitted, judged, unload-admitted}
@@ -41,6 +41,7 @@ leads-count p js (Unload n) move next h =
     let a = h .0 in
     let removed = over-jobs-removed (stagesLeft p) (a .here .before) (a .here .after) (a .here .item) in
     omega (arith, ap (stagesBefore p) (h .2), ap (stagesBefore p) (a .here .whole), h .1, removed)
+leads-count p js (Pull n) move next h = absurd move
 
 pub move-count : (p : Plan) (t : JobList) (e : Event) → IsMove e → answer p t e ≡ Admitted
     → 1 + stagesBefore p (jobsOf (listAfter p t e)) ≡ stagesBefore p (jobsOf t)

@@ -10,32 +10,34 @@ use Rattle.model.specs.Limits.{maxNumber, maxJobs}
 use Rattle.model.specs.Numbers.{InRange, inRange}
 use Rattle.model.specs.Questions.{Question, Condition, ask, asks, answerOf, FirstFailure}
 use Rattle.model.specs.Jobs.{KeepsCapacities, KeepsRows, Exceeded, Broken, exceeded, broken, Active, isActive, jobOf}
-use Rattle.model.specs.Jobs.{HasNext, IsLast, hasNext, isLast, loadedJob, advancedAt, removedAt, loaded, advanced, unloaded}
+use Rattle.model.specs.Jobs.{HasNext, IsLast, hasNext, isLast, loadedJob, advancedAt, removedAt, loaded, advanced, removed}
 use Rattle.model.specs.Soundness.{Sound, sound}
 use Rattle.model.specs.declared.Plan.{Plan}
 use Rattle.model.specs.declared.Job.{Job}
 use Rattle.events.specs.JobList.{jobsOf, listOf, Agrees, agrees}
 use Rattle.events.specs.declared.JobList.{JobList}
 use Rattle.events.specs.declared.Event.{Event}
-use Rattle.events.specs.declared.Event.the-variants.{Load, Advance, Unload}
+use Rattle.events.specs.declared.Event.the-variants.{Load, Advance, Unload, Pull}
 use Rattle.events.specs.declared.Answer.{Answer}
 use Rattle.events.specs.declared.Answer.the-variants.{Admitted, UnsoundPlan, Disagreement, BadNumber, WrongActivity}
 use Rattle.events.specs.declared.Answer.the-variants.{UnknownType, Full, WrongStage, OverCapacity, RowBroken}
 use Rattle.events.specs.declared.ListOutcome.{ListOutcome}
 
--- a move is an advance or an unload
+-- a move is an advance or an unload, one stage of a route done; a pull, which may leave several undone, is no move
 abbrev pub IsMove : Event → Type 0
 IsMove (Load n t) = ⊥
 IsMove (Advance n) = Unit {0}
 IsMove (Unload n) = Unit {0}
+IsMove (Pull n) = ⊥
 
 -- what the model names: the jobs that an event leads to. A load comes last, at stage 1; an advance swaps the demands of
 -- two stages in one act (Condition 3 of source document 003), so only the jobs afterwards are judged; an unload closes the
--- gap
+-- gap, and so does a pull, of a job at whichever stage
 abbrev pub LeadsTo : Plan → List Job → Event → List Job → Type 0
 LeadsTo p js (Load n t) next = next ≡ js ++ loadedJob n t ∷ []
 LeadsTo p js (Advance n) next = (a : Active n js) × HasNext p (a .here .item) × (next ≡ advancedAt p (a .here))
 LeadsTo p js (Unload n) next = (a : Active n js) × IsLast p (a .here .item) × (next ≡ removedAt (a .here))
+LeadsTo p js (Pull n) next = (a : Active n js) × (next ≡ removedAt (a .here))
 
 -- the model and the plan's inequalities allow the event: what it leads to keeps every capacity and every row (Equation 1)
 pub record Allowed (p : Plan) (js : List Job) (e : Event) : Type 0 where
@@ -49,6 +51,7 @@ abbrev pub WellNamed : Plan → List Job → Event → Type 0
 WellNamed p js (Load n t) = InRange n maxNumber × (¬ Active n js) × InRange t (p .types) × (length js < maxJobs)
 WellNamed p js (Advance n) = Active n js
 WellNamed p js (Unload n) = Active n js
+WellNamed p js (Pull n) = Active n js
 
 -- P holds of the jobs that the event leads to; it is asked where there are such
 abbrev pub Afterwards : Plan → List Job → Event → (List Job → Type 0) → Type 0
@@ -105,6 +108,10 @@ ownConditions p js (Unload n) =
     ∷ asks (Active n js) (Says 14 0)
     ∷ asks ((a : Active n js) → IsLast p (a .here .item)) (Says 17 0)
     ∷ keptConditions p js (Unload n)
+ownConditions p js (Pull n) =
+    asks (InRange n maxNumber) (Says 13 0)
+    ∷ asks (Active n js) (Says 14 0)
+    ∷ keptConditions p js (Pull n)
 
 -- asked before all else
 abbrev pub firstConditions : Plan → JobList → List (Condition Answer)
@@ -117,7 +124,8 @@ eventConditions p t e = firstConditions p t ++ ownConditions p (jobsOf t) e
 abbrev pub jobsAfter : Plan → List Job → Event → List Job
 jobsAfter p js (Load n t) = loaded n t js
 jobsAfter p js (Advance n) = advanced p n js
-jobsAfter p js (Unload n) = unloaded n js
+jobsAfter p js (Unload n) = removed n js
+jobsAfter p js (Pull n) = removed n js
 
 abbrev pub limitQuestions : ℕ → ℕ → List (Question Answer)
 limitQuestions resource row = ask (eqb resource 0) (OverCapacity resource) ∷ ask (eqb row 0) (RowBroken row) ∷ []
@@ -129,7 +137,7 @@ keptQuestions p next = limitQuestions (exceeded p next) (broken p next)
 unfoldable pub keptAnswer : ℕ → ℕ → Answer
 keptAnswer resource row = answerOf Admitted (limitQuestions resource row)
 
--- 13 and 14 of a move, and 13 to 16 of a load into a plan with so many types
+-- 13 and 14 of an event whose job must be active, and 13 to 16 of a load into a plan with so many types
 abbrev pub nameQuestions : List Job → ℕ → List (Question Answer)
 nameQuestions js n = ask (inRange n maxNumber) BadNumber ∷ ask (isActive n js) WrongActivity ∷ []
 
@@ -147,6 +155,7 @@ ownQuestions p js (Advance n) =
     nameQuestions js n ++ ask (hasNext p (jobOf n js)) WrongStage ∷ keptQuestions p (jobsAfter p js (Advance n))
 ownQuestions p js (Unload n) =
     nameQuestions js n ++ ask (isLast p (jobOf n js)) WrongStage ∷ keptQuestions p (jobsAfter p js (Unload n))
+ownQuestions p js (Pull n) = nameQuestions js n ++ keptQuestions p (jobsAfter p js (Pull n))
 
 abbrev pub firstQuestions : Plan → JobList → List (Question Answer)
 firstQuestions p t = ask (sound p) UnsoundPlan ∷ ask (agrees p t) Disagreement ∷ []

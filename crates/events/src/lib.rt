@@ -12,6 +12,7 @@ pub enum Event {
     Load { job: u32, kind: u32 },
     Advance(u32),
     Unload(u32),
+    Pull(u32),
 }
 
 // What an event is answered; its numbers are `answerNumbers` of specs/Events.

@@ -58,6 +58,9 @@ fn event_with(letter: u8, fields: Fields) -> EventLine
     if letter == b'U' && count == 1 {
         return EventLine::Given(Event::Unload(first));
     }
+    if letter == b'X' && count == 1 {
+        return EventLine::Given(Event::Pull(first));
+    }
     EventLine::Malformed
 }
 

@@ -13,7 +13,7 @@ use Rattle.model.specs.Limits.{maxNumber}
 use Rattle.model.specs.Numbers.{Each, Distinct}
 use Rattle.model.specs.Plan.{capacityOf, boundOf, demandOf, weightOf, lengthOf}
 use Rattle.model.specs.Jobs.{overStages, overJobs, unitsHeld, rowSum, KeepsCapacities, KeepsRows, Exceeded, Broken, exceeded, broken, Active, isActive}
-use Rattle.model.specs.Jobs.{jobOf, advancedJob, advanced, unloaded, numbers, Numbered, AtStage, Agreeing, distinct, fits, agreeing}
+use Rattle.model.specs.Jobs.{jobOf, advancedJob, advanced, removed, numbers, Numbered, AtStage, Agreeing, distinct, fits, agreeing}
 use Rattle.model.specs.declared.Plan.{Plan}
 use Rattle.model.specs.declared.Job.{Job}
 use Rattle.model.proofs.Decide.{Decides, holding, failing, decides-iff, _and_, decides-then, decides-or, decides-not}
@@ -64,11 +64,11 @@ distinct-added (x ∷ js) j n h = (
     other : j .number ≢ x .number
     other e = n (record { here = split-first x js; numbered = sym e })
 
--- the job that a number names, and the lists after its advance and its unload
+-- the job that a number names, and the lists after its advance and its removal
 pub record Found (p : Plan) (n : ℕ) (js : List Job) (a : Active n js) : Type 0 where
   pub job : jobOf n js ≡ a .here .item
   pub advance : advanced p n js ≡ a .here .before ++ advancedJob p (a .here .item) ∷ a .here .after
-  pub unload : unloaded n js ≡ a .here .before ++ a .here .after
+  pub removal : removed n js ≡ a .here .before ++ a .here .after
 
 found-at : (p : Plan) (xs : List Job) (j : Job) (ys : List Job) → Distinct (numbers (xs ++ j ∷ ys))
     → Found p (j .number) (xs ++ j ∷ ys) (record { here = split-at xs j ys; numbered = refl })
@@ -76,7 +76,7 @@ found-at p [] j ys h =
     record {
       job = rw (eq-eqb (j .number) (j .number) refl) refl;
       advance = rw (eq-eqb (j .number) (j .number) refl) refl;
-      unload = rw (eq-eqb (j .number) (j .number) refl) refl;
+      removal = rw (eq-eqb (j .number) (j .number) refl) refl;
     }
 found-at p (x ∷ xs) j ys h =
     let other = each-at (OtherJob (x .number)) xs j ys (each-number (Other (x .number)) (xs ++ j ∷ ys) (h .0)) in
@@ -85,7 +85,7 @@ found-at p (x ∷ xs) j ys h =
     record {
       job = rw miss (rest .job);
       advance = rw miss (ap (λ (js : List Job). x ∷ js) (rest .advance));
-      unload = rw miss (ap (λ (js : List Job). x ∷ js) (rest .unload));
+      removal = rw miss (ap (λ (js : List Job). x ∷ js) (rest .removal));
     }
 
 pub found : (p : Plan) {n : ℕ} {js : List Job} (a : Active n js) → Distinct (numbers js) → Found p n js a
@@ -94,7 +94,7 @@ found p {n} {js} a d =
     record {
       job = rw (a .here .whole, ← a .numbered) (f .job);
       advance = rw (a .here .whole, ← a .numbered) (f .advance);
-      unload = rw (a .here .whole, ← a .numbered) (f .unload);
+      removal = rw (a .here .whole, ← a .numbered) (f .removal);
     }
 
 -- a number is active where some job of the list has it

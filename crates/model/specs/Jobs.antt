@@ -105,7 +105,7 @@ advancedAt p s = s .before ++ advancedJob p (s .item) ∷ s .after
 abbrev pub removedAt : {js : List Job} → Split js → List Job
 removedAt s = s .before ++ s .after
 
--- the same, computed by the job's number: a load comes last, an advance keeps its position, an unload closes the gap
+-- the same, computed by the job's number: a load comes last, an advance keeps its position, a removal closes the gap
 abbrev pub loaded : ℕ → ℕ → List Job → List Job
 loaded n t js = js ++ loadedJob n t ∷ []
 
@@ -113,9 +113,9 @@ abbrev pub advanced : Plan → ℕ → List Job → List Job
 advanced p n [] = []
 advanced p n (j ∷ js) = cond (hasNumber n j) (advancedJob p j ∷ js) (j ∷ advanced p n js)
 
-abbrev pub unloaded : ℕ → List Job → List Job
-unloaded n [] = []
-unloaded n (j ∷ js) = cond (hasNumber n j) js (j ∷ unloaded n js)
+abbrev pub removed : ℕ → List Job → List Job
+removed n [] = []
+removed n (j ∷ js) = cond (hasNumber n j) js (j ∷ removed n js)
 
 abbrev pub numbers : List Job → List ℕ
 numbers js = map (λ (j : Job). j .number) js

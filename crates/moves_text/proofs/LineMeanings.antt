@@ -10,7 +10,7 @@ use lib.Dec.{eqb}
 use lib.ListN.{length, getD}
 use borrow.Author.Tests.{eqb-true}
 use Rattle.events.specs.declared.Event.{Event}
-use Rattle.events.specs.declared.Event.the-variants.{Load, Advance, Unload}
+use Rattle.events.specs.declared.Event.the-variants.{Load, Advance, Unload, Pull}
 use Rattle.model.specs.Numbers.{Each}
 use Rattle.model.proofs.Decide.{holds, passes, decides-eq, _and_}
 use Rattle.plan_text.specs.Lines.{Line, wider, tab, hash, isSkipped, parts, letterIn, letterByte, fieldsIn}
@@ -74,18 +74,21 @@ Told bytes Malformed = Unit {0}
 Told bytes (Given e) = Writes bytes e
 
 event-read : (bytes : List ℕ) → Told bytes (eventOf (parts bytes))
-event-read bytes = go (passed ps 76 2) (passed ps 65 1) (passed ps 85 1) refl refl refl
+event-read bytes = go (passed ps 76 2) (passed ps 65 1) (passed ps 85 1) (passed ps 88 1) refl refl refl refl
   where
     ps : List (List ℕ)
     ps = parts bytes
 
-    go : (a b c : Bool) → passed ps 76 2 ≡ a → passed ps 65 1 ≡ b → passed ps 85 1 ≡ c
+    go : (a b c d : Bool) → passed ps 76 2 ≡ a → passed ps 65 1 ≡ b → passed ps 85 1 ≡ c → passed ps 88 1 ≡ d
         → Told bytes
-        (cond a (Given (Load (number ps 0) (number ps 1))) (cond b (Given (Advance (number ps 0))) (cond c (Given (Unload (number ps 0))) Malformed)))
-    go true b c e k m = two-fields 76 ps (split-some tab bytes) (lettered ps 75 2 (omega arith) e)
-    go false true c e k m = one-field 65 ps (split-some tab bytes) (lettered ps 64 1 (omega arith) k)
-    go false false true e k m = one-field 85 ps (split-some tab bytes) (lettered ps 84 1 (omega arith) m)
-    go false false false e k m = tt
+        (cond a (Given (Load (number ps 0) (number ps 1)))
+        (cond b (Given (Advance (number ps 0)))
+        (cond c (Given (Unload (number ps 0))) (cond d (Given (Pull (number ps 0))) Malformed))))
+    go true b c d e k m w = two-fields 76 ps (split-some tab bytes) (lettered ps 75 2 (omega arith) e)
+    go false true c d e k m w = one-field 65 ps (split-some tab bytes) (lettered ps 64 1 (omega arith) k)
+    go false false true d e k m w = one-field 85 ps (split-some tab bytes) (lettered ps 84 1 (omega arith) m)
+    go false false false true e k m w = one-field 88 ps (split-some tab bytes) (lettered ps 87 1 (omega arith) w)
+    go false false false false e k m w = tt
 
 -- and one that is written is read
 event-written : (bytes : List ℕ) (e : Event) → Writes bytes e → eventOf (parts bytes) ≡ Given e
@@ -93,6 +96,7 @@ event-written bytes (Load n t) (f, g, whole, says, also) =
     rw (whole, passes (decides-number f) (says .0), passes (decides-number g) (also .0), says .1, also .1) refl
 event-written bytes (Advance n) (f, whole, says) = rw (whole, passes (decides-number f) (says .0), says .1) refl
 event-written bytes (Unload n) (f, whole, says) = rw (whole, passes (decides-number f) (says .0), says .1) refl
+event-written bytes (Pull n) (f, whole, says) = rw (whole, passes (decides-number f) (says .0), says .1) refl
 
 -- the first byte of a skipped line's letter is `#`, if there is one, so it writes no event
 skipped-letter : (bytes : List ℕ) → isSkipped bytes ≡ true → getD (letterIn (parts bytes)) 0 hash ≡ hash
@@ -107,6 +111,7 @@ skipped-writes-none : (bytes : List ℕ) (e : Event) → isSkipped bytes ≡ tru
 skipped-writes-none bytes (Load n t) skipped h = omega (arith, rw (h .2) at (skipped-letter bytes skipped))
 skipped-writes-none bytes (Advance n) skipped h = omega (arith, rw (h .1) at (skipped-letter bytes skipped))
 skipped-writes-none bytes (Unload n) skipped h = omega (arith, rw (h .1) at (skipped-letter bytes skipped))
+skipped-writes-none bytes (Pull n) skipped h = omega (arith, rw (h .1) at (skipped-letter bytes skipped))
 
 module _ (l : Line) where
   -- what is computed of an event line is what document 01 words

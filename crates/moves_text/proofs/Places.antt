@@ -12,7 +12,7 @@ use Rattle.model.specs.Limits.{maxJobs}
 use Rattle.model.specs.Numbers.{lowest, Each}
 use Rattle.model.specs.Questions.{Question, answerOf}
 use Rattle.model.specs.Plan.{lengthOf}
-use Rattle.model.specs.Jobs.{exceeded, broken, loaded, advanced, unloaded}
+use Rattle.model.specs.Jobs.{exceeded, broken, loaded, advanced, removed}
 use Rattle.model.specs.Soundness.{Sound}
 use Rattle.model.specs.Upstream.{faultyStage, faultyType, faultyRow, faultyBound, checkNumbers, checkQuestions, check}
 use Rattle.model.specs.declared.Plan.{Plan}
@@ -25,7 +25,7 @@ use Rattle.events.specs.JobList.{jobsOf, agrees}
 use Rattle.events.specs.Events.{answerNumbers, keptQuestions, ownQuestions, answer, listAfter}
 use Rattle.events.specs.declared.JobList.{JobList}
 use Rattle.events.specs.declared.Event.{Event}
-use Rattle.events.specs.declared.Event.the-variants.{Load, Advance, Unload}
+use Rattle.events.specs.declared.Event.the-variants.{Load, Advance, Unload, Pull}
 use Rattle.events.specs.declared.Answer.{Answer}
 use Rattle.events.specs.declared.Answer.the-variants.{Admitted}
 use Rattle.events.proofs.Answers.{admitted-or-not, admitted-holds, list-refused, agrees-after}
@@ -99,7 +99,8 @@ module _ (p : Plan) (sound : Sound p) where
   own-refusals : (js : List Job) (e : Event) → Refusals SmallAnswer (ownQuestions p js e)
   own-refusals js (Load n t) = (omega arith, (omega arith, (omega arith, (omega arith, limits (loaded n t js)))))
   own-refusals js (Advance n) = (omega arith, (omega arith, (omega arith, limits (advanced p n js))))
-  own-refusals js (Unload n) = (omega arith, (omega arith, (omega arith, limits (unloaded n js))))
+  own-refusals js (Unload n) = (omega arith, (omega arith, (omega arith, limits (removed n js))))
+  own-refusals js (Pull n) = (omega arith, (omega arith, limits (removed n js)))
 
 pub answer-small : (p : Plan) (t : JobList) (e : Event) → SmallAnswer (answer p t e)
 unfolding answer

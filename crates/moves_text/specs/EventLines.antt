@@ -1,13 +1,13 @@
--- The event lines of document 01: `L` job type, `A` job, `U` job, with tabs and fields of 1 to 5 digits.
+-- The event lines, with tabs and fields of 1 to 5 digits: `L` job type, `A` job, `U` job (document 01) and `X` job (document 02, S-1).
 use Prim.Native.Nat.{ℕ}
-use mathlib.Core.Bool.{Bool, true, false, cond, _&&_}
+use mathlib.Core.Bool.{true, cond, _&&_}
 use mathlib.Core.List.{List, [], _∷_, map}
 use mathlib.Core.Option.{Option, none, some}
 use mathlib.Core.Path.{_≡_}
 use lib.Dec.{eqb}
 use lib.ListN.{getD}
 use Rattle.events.specs.declared.Event.{Event}
-use Rattle.events.specs.declared.Event.the-variants.{Load, Advance, Unload}
+use Rattle.events.specs.declared.Event.the-variants.{Load, Advance, Unload, Pull}
 use Rattle.plan_text.specs.Lines.{Line, linesOf, isSkipped, parts, letterIn, letterByte, fieldsIn}
 use Rattle.plan_text.specs.Records.{IsNumber, numberOn, fieldsRead}
 use Rattle.plan_text.specs.declared.Fields.{Fields}
@@ -24,6 +24,7 @@ abbrev pub Writes : List ℕ → Event → Type 0
 Writes bytes (Load n t) = (f g : List ℕ) × (parts bytes ≡ quoted "L" ∷ f ∷ g ∷ []) × Says f n × Says g t
 Writes bytes (Advance n) = (f : List ℕ) × (parts bytes ≡ quoted "A" ∷ f ∷ []) × Says f n
 Writes bytes (Unload n) = (f : List ℕ) × (parts bytes ≡ quoted "U" ∷ f ∷ []) × Says f n
+Writes bytes (Pull n) = (f : List ℕ) × (parts bytes ≡ quoted "X" ∷ f ∷ []) × Says f n
 
 -- what a line means: an empty line or one that begins with `#` is skipped, where it has its LF; a line of another form, or
 -- without LF, is malformed
@@ -46,7 +47,8 @@ eventWith letter fs =
     let second = getD (fs .numbers) 1 0 in
     cond (eqb letter 76 && eqb (fs .count) 2) (Given (Load first second))
     (cond (eqb letter 65 && eqb (fs .count) 1) (Given (Advance first))
-    (cond (eqb letter 85 && eqb (fs .count) 1) (Given (Unload first)) Malformed))
+    (cond (eqb letter 85 && eqb (fs .count) 1) (Given (Unload first))
+    (cond (eqb letter 88 && eqb (fs .count) 1) (Given (Pull first)) Malformed)))
 
 unfoldable pub eventIn : Line → EventLine
 eventIn l =

@@ -30,8 +30,8 @@ use Rattle.events.specs.declared.Event.the-variants.{Advance, Unload}
 use Rattle.events.specs.declared.Answer.the-variants.{Admitted}
 use Rattle.parts.specs.Parts.{sumsOf, ceilingsOf, keptAfter, positionOf, withReplaced, withoutJob, firstMovable}
 use Rattle.parts.proofs.Positions.{position-active, position-job}
-use Rattle.parts.proofs.ListChanges.{count-is, advanced-list, unloaded-list}
-use Rattle.parts.proofs.MoveQuestions.{Stands, job-staged, advance-goes, unload-goes}
+use Rattle.parts.proofs.ListChanges.{count-is, advanced-list, removed-list}
+use Rattle.parts.proofs.ActiveQuestions.{Stands, job-staged, advance-goes, unload-goes}
 
 -- where numbers differ, the number of the job at a position is found at that position
 each-other : (n : ℕ) (js : List Job) (i : ℕ) → Each (λ (m : ℕ). m ≢ n) (numbers js) → i < length js → getD js i noJob .number ≢ n
@@ -93,7 +93,7 @@ module _ (p : Plan) (t : JobList) (sound : Sound p) (agrees : Agrees p t) (i : �
     pub last-leads : withoutJob t i ≡ listOf (jobsAfter p (jobsOf t) (moveOf p job))
     last-leads =
         ap (withoutJob t) (sym found)
-        ∙ unloaded-list p t agrees (job .number) active
+        ∙ removed-list p t agrees (job .number) active
         ∙ ap (λ (e : Event). listOf (jobsAfter p (jobsOf t) e)) (sym unload)
 
   -- at another

@@ -9,6 +9,6 @@ pub mod ListChanges
 pub mod QuestionParts
 pub mod FirstQuestions
 pub mod LoadQuestions
-pub mod MoveQuestions
+pub mod ActiveQuestions
 pub mod EarliestMove
 pub mod DrainLoop

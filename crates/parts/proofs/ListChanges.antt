@@ -10,14 +10,14 @@ use borrow.Author.Tests.{ltb-true, lt-ltb, le-leb}
 use lib.ListN.{length, take, drop, set, replicate, length-append, length-take, length-drop, length-set, replicate-append-replicate}
 use lib.Seq.{length-take-le, set-at, set-append-left, take-append-le, drop-append-le}
 use Rattle.model.specs.Limits.{maxJobs}
-use Rattle.model.specs.Jobs.{noJob, isActive, jobOf, advancedJob, advanced, unloaded}
+use Rattle.model.specs.Jobs.{noJob, isActive, jobOf, advancedJob, advanced, removed}
 use Rattle.model.specs.declared.Plan.{Plan}
 use Rattle.model.specs.declared.Job.{Job}
 use Rattle.events.specs.JobList.{jobsOf, listOf, Agrees}
 use Rattle.events.specs.declared.JobList.{JobList}
 use Rattle.events.proofs.JobLists.{list-of-jobs}
 use Rattle.parts.specs.Parts.{positionOf, withJob, withReplaced, withoutJob}
-use Rattle.parts.proofs.Positions.{position-active, position-job, position-advanced, position-unloaded}
+use Rattle.parts.proofs.Positions.{position-active, position-job, position-advanced, position-removed}
 
 -- a job list with the count and the slots of these jobs is theirs
 list-is : (t : JobList) (js : List Job) → t .count ≡ length js → t .jobs ≡ js ++ replicate (maxJobs - length js) noJob → t ≡ listOf js
@@ -59,9 +59,9 @@ module _ (p : Plan) (t : JobList) (agrees : Agrees p t) where
       list-is (record { count = t .count; jobs = set (t .jobs) i j }) (set js i j) (count-is ∙ sym long)
       (written ∙ ap (λ n. set js i j ++ replicate (maxJobs - n) noJob) (sym long))
 
-  pub removed-list : (i : ℕ) → i < t .count → withoutJob t i ≡ listOf (take i (jobsOf t) ++ drop (suc i) (jobsOf t))
+  closed-list : (i : ℕ) → i < t .count → withoutJob t i ≡ listOf (take i (jobsOf t) ++ drop (suc i) (jobsOf t))
   unfolding withoutJob
-  removed-list i low =
+  closed-list i low =
       let js = jobsOf t in
       let left = take i js ++ drop (suc i) js in
       let empty = replicate (maxJobs - length js) noJob in
@@ -94,5 +94,5 @@ module _ (p : Plan) (t : JobList) (agrees : Agrees p t) where
         ∙ ap (λ (j : Job). listOf (set js (positionOf n js) (advancedJob p j))) (position-job n js)
         ∙ ap listOf (sym (position-advanced n p js))
 
-    pub unloaded-list : withoutJob t (positionOf n (jobsOf t)) ≡ listOf (unloaded n (jobsOf t))
-    unloaded-list = removed-list (positionOf n (jobsOf t)) position-below ∙ ap listOf (sym (position-unloaded n (jobsOf t)))
+    pub removed-list : withoutJob t (positionOf n (jobsOf t)) ≡ listOf (removed n (jobsOf t))
+    removed-list = closed-list (positionOf n (jobsOf t)) position-below ∙ ap listOf (sym (position-removed n (jobsOf t)))

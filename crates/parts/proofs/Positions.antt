@@ -1,5 +1,5 @@
 -- The position of a job, as the code finds it, names what the definitions name: the job with the number, and the lists after
--- its advance and its unload.
+-- its advance and its removal.
 use Prim.Native.Nat.{ℕ, suc, _+_, _≤_, _<_, min}
 use native.Mathlib.Numerals.{add-one}
 use native.Mathlib.Omega.{arith}
@@ -11,7 +11,7 @@ use lib.Dec.{ltb}
 use lib.ListN.{length, take, drop, set, getD, length-take, drop-of-length-le}
 use lib.Seq.{drop-cons}
 use Rattle.model.specs.Limits.{maxJobs}
-use Rattle.model.specs.Jobs.{noJob, hasNumber, isActive, jobOf, advancedJob, advanced, unloaded}
+use Rattle.model.specs.Jobs.{noJob, hasNumber, isActive, jobOf, advancedJob, advanced, removed}
 use Rattle.model.specs.declared.Plan.{Plan}
 use Rattle.model.specs.declared.Job.{Job}
 use Rattle.events.specs.JobList.{jobsOf}
@@ -83,11 +83,11 @@ module _ (n : ℕ) where
       refl
       (ap (λ (is : List Job). j ∷ is) (position-advanced p js))
 
-  pub position-unloaded : (js : List Job) → unloaded n js ≡ without js (positionOf n js)
-  position-unloaded [] = refl
-  position-unloaded (j ∷ js) =
-      by-number j (λ b. cond b js (j ∷ unloaded n js) ≡ without (j ∷ js) (here-or-later b (positionOf n js))) refl
-      (ap (λ (is : List Job). j ∷ is) (position-unloaded js))
+  pub position-removed : (js : List Job) → removed n js ≡ without js (positionOf n js)
+  position-removed [] = refl
+  position-removed (j ∷ js) =
+      by-number j (λ b. cond b js (j ∷ removed n js) ≡ without (j ∷ js) (here-or-later b (positionOf n js))) refl
+      (ap (λ (is : List Job). j ∷ is) (position-removed js))
 
   -- what a search hands back: the position, and the job that stands there
   pub found-there : (js : List Job) (i : ℕ) (j : Job) → i ≡ positionOf n js → getD js i noJob ≡ j → _≡_ {A = Found} (record { at = i; job = j }) (foundIn n js)

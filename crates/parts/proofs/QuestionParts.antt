@@ -132,7 +132,7 @@ module _ (p : Plan) (t : JobList) where
                 let turn : a ≡ first = asked ∙ rw e refl in
                 absurd (false≢true (sym e ∙ ap isAdmitted (sym turn) ∙ h))
 
--- 13 and 14 of a move
+-- 13 and 14 of an event whose job must be active
 module _ (js : List Job) (n : ℕ) where
   name-refuses : Refusing (nameQuestions js n)
   name-refuses = (refl, (refl, tt))

@@ -1,16 +1,16 @@
 -- What the parts of the entrances compute, each under one name. No promise rests on these: the contracts of the entrances
 -- are equations with the definitions of `events` and `model`.
 use Prim.Native.Nat.{ℕ, zero, suc, _+_, _-_, _≤_}
-use mathlib.Core.Bool.{Bool, cond, not, _&&_}
+use mathlib.Core.Bool.{Bool, true, cond, not, _&&_}
 use mathlib.Core.List.{List, [], _∷_, _++_}
 use mathlib.Core.Path.{_≡_}
 use lib.ListN.{length, take, drop, getD, set, replicate}
-use lib.Dec.{leb, ltb}
+use lib.Dec.{leb, ltb, eqb}
 use Rattle.model.specs.Limits.{maxResources, maxRows, maxAllStages, maxNumber, maxJobs}
 use Rattle.model.specs.Numbers.{InRange, inRange, at, sumTo, lowest, each}
 use Rattle.model.specs.Questions.{ask, answerOf}
-use Rattle.model.specs.Plan.{demandOf, weightOf}
-use Rattle.model.specs.Jobs.{noJob, overJobs, hasNumber, jobOf, hasNext, isLast, numbers, distinct, fits}
+use Rattle.model.specs.Plan.{lengthOf, demandOf, weightOf}
+use Rattle.model.specs.Jobs.{noJob, overJobs, hasNumber, jobOf, numbers, distinct, fits}
 use Rattle.model.specs.declared.Plan.{Plan}
 use Rattle.model.specs.declared.Stage.{Stage}
 use Rattle.model.specs.declared.Job.{Job}
@@ -25,6 +25,8 @@ use Rattle.parts.specs.declared.Sums.{Sums}
 use Rattle.parts.specs.declared.Ceilings.{Ceilings}
 use Rattle.parts.specs.declared.Found.{Found}
 use Rattle.parts.specs.declared.Agreement.{Agreement}
+use Rattle.parts.specs.declared.StageAsked.{StageAsked}
+use Rattle.parts.specs.declared.StageAsked.the-variants.{Next, Last, Any}
 
 -- the list f 1, .., f n
 abbrev pub tabulate : ℕ → (ℕ → ℕ) → List ℕ
@@ -90,14 +92,19 @@ foundIn n js = record { at = positionOf n js; job = jobOf n js }
 abbrev pub refusal : Answer → JobList → ListOutcome
 refusal a t = record { answer = a; list = t }
 
--- question 17: an unload asks for the last stage, an advance for a next one
-abbrev pub stageMet : Plan → Bool → Job → Bool
-stageMet p unloads j = cond unloads (isLast p j) (hasNext p j)
+-- question 17 at this stage of a type with so many stages; and of a job
+abbrev pub stageMeets : StageAsked → ℕ → ℕ → Bool
+stageMeets Next stage length = ltb stage length
+stageMeets Last stage length = eqb stage length
+stageMeets Any stage length = true
 
--- questions 13, 14 and 17 of a move, and 13 to 16 of a load, by the count of jobs and the position that the search for the
+abbrev pub stageMet : Plan → StageAsked → Job → Bool
+stageMet p wanted j = stageMeets wanted (j .stage) (lengthOf p (j .kind))
+
+-- questions 13, 14 and 17 of an event whose job must be active, and 13 to 16 of a load, by the count of jobs and the position that the search for the
 -- number found; asked where those before were answered 0
-unfoldable pub moveAnswer : Answer → ℕ → ℕ → ℕ → Bool → Answer
-moveAnswer first count position n met =
+unfoldable pub activeAnswer : Answer → ℕ → ℕ → ℕ → Bool → Answer
+activeAnswer first count position n met =
     cond (isAdmitted first)
     (answerOf Admitted (ask (inRange n maxNumber) BadNumber ∷ ask (ltb position count) WrongActivity ∷ ask met WrongStage ∷ []))
     first
@@ -126,6 +133,10 @@ withoutJob t i =
     cond (ltb i (t .count) && leb (t .count) maxJobs)
     (record { count = t .count - 1; jobs = take i (t .jobs) ++ drop (i + 1) (t .jobs) ++ noJob ∷ [] })
     t
+
+-- what an event hands back that takes out the job at a position, where its questions were answered 0
+unfoldable pub removalFrom : JobList → Answer → ℕ → ListOutcome
+removalFrom t first i = cond (isAdmitted first) (record { answer = first; list = withoutJob t i }) (refusal first t)
 
 -- the part of agreement that needs no sums, in a plan with so many types and so many stages of each
 unfoldable pub wellFormed : ℕ → List ℕ → JobList → Bool

@@ -20,6 +20,14 @@ pub struct Found {
     pub job: Job,
 }
 
+// What is asked of a job's stage, question 17: that there is a next one, for an advance; that it is the last, for an unload; and nothing,
+// for a pull.
+pub enum StageAsked {
+    Next,
+    Last,
+    Any,
+}
+
 // The answer to questions 11 and 12 and, where both are met, the sums over the jobs and what they are held against.
 pub struct Agreement {
     pub answer: Answer,

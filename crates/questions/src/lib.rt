@@ -1,11 +1,10 @@
 // Questions 13 to 17 by numbers that the code has at hand: what was answered before, the count of jobs, where the search for the
 // job number ended.
 ghost use mathlib.Core.Path.{_≡_};
-ghost use mathlib.Core.Bool.{cond};
-ghost use lib.Dec.{eqb, ltb};
 ghost use Rattle.model.specs.Numbers.{inRange};
-ghost use Rattle.parts.specs.Parts.{moveAnswer, loadAnswer};
+ghost use Rattle.parts.specs.Parts.{stageMeets, activeAnswer, loadAnswer};
 use events::Answer;
+use parts::StageAsked;
 
 fn in_range(i: u32, n: u32) -> bool
     ensures { λ r. ⌜ r ≡ inRange i n ⌝ }
@@ -46,20 +45,20 @@ pub fn load_answer(
     Answer::Admitted
 }
 
-// Question 17: an unload asks for the last stage, an advance for a next one.
-pub fn stage_met(stage: u32, length: u32, unloads: bool) -> bool
-    ensures { λ r. ⌜ r ≡ cond unloads (eqb stage length) (ltb stage length) ⌝ }
+// Question 17 at this stage of a type with so many stages.
+pub fn stage_met(stage: u32, length: u32, wanted: StageAsked) -> bool
+    ensures { λ r. ⌜ r ≡ stageMeets wanted stage length ⌝ }
 {
-    if unloads {
-        stage == length
-    } else {
-        stage < length
+    match wanted {
+        StageAsked::Next => stage < length,
+        StageAsked::Last => stage == length,
+        StageAsked::Any => true,
     }
 }
 
-// Questions 13, 14 and 17 of a move, in the same way.
-pub fn move_answer(first: Answer, count: usize, at: usize, job: u32, met: bool) -> Answer
-    ensures { λ r. ⌜ r ≡ moveAnswer first count at job met ⌝ }
+// Questions 13, 14 and 17 of an event whose job must be active, in the same way.
+pub fn active_answer(first: Answer, count: usize, at: usize, job: u32, met: bool) -> Answer
+    ensures { λ r. ⌜ r ≡ activeAnswer first count at job met ⌝ }
 {
     let Answer::Admitted = first else {
         return first;

@@ -56,6 +56,13 @@ pub extern "C" fn rilthoss_unload(cell: &mut [u8], job: u32) -> u64
 }
 
 #[no_mangle]
+pub extern "C" fn rilthoss_pull(cell: &mut [u8], job: u32) -> u64
+    ensures { λ r. ⌜ (r ≡ eventAnswer (now (cell .entry)) (Event.Pull job)) × (now (cell .exit) ≡ eventCell (now (cell .entry)) (Event.Pull job)) ⌝ }
+{
+    event_at(cell, Event::Pull(job))
+}
+
+#[no_mangle]
 pub extern "C" fn rilthoss_drain(cell: &mut [u8], budget: u32) -> u64
     ensures { λ r. ⌜ (r ≡ drainAnswer (now (cell .entry)) budget) × (now (cell .exit) ≡ drainCell (now (cell .entry)) budget) ⌝ }
 {

@@ -15,7 +15,7 @@ use Rattle.admission.specs.Table.{tableOf, outcome}
 use Rattle.runs.specs.Run.{ran, eventOf, eventsOf}
 use Rattle.admission.specs.declared.Table.{Table}
 use Rattle.events.specs.declared.Event.{Event}
-use Rattle.events.specs.declared.Event.the-variants.{Load, Advance, Unload}
+use Rattle.events.specs.declared.Event.the-variants.{Load, Advance, Unload, Pull}
 use Rattle.admission.specs.declared.Outcome.{Outcome}
 use Rattle.runs.specs.declared.Ran.{Ran}
 
@@ -53,17 +53,19 @@ run-one p t e o r h made = λ i. record { table = (made .0 ∙ ap (λ (o : Outco
 
 -- a letter is one event at most
 pub admitted-one : (p : Plan) (t : Table) (l n k : ℕ) → ran p t (eventOf l n k) .admitted ≤ 1
-admitted-one p t l n k = go (eqb l 76) (eqb l 65) (eqb l 85)
+admitted-one p t l n k = go (eqb l 76) (eqb l 65) (eqb l 85) (eqb l 88)
   where
     counts : (b : Bool) → cond b 1 0 + 0 ≤ 1
     counts true = omega arith
     counts false = omega arith
 
-    go : (a b c : Bool) → ran p t (cond a (Load n k ∷ []) (cond b (Advance n ∷ []) (cond c (Unload n ∷ []) []))) .admitted ≤ 1
-    go true b c = counts (isAdmitted (answer p (t .list) (Load n k)))
-    go false true c = counts (isAdmitted (answer p (t .list) (Advance n)))
-    go false false true = counts (isAdmitted (answer p (t .list) (Unload n)))
-    go false false false = omega arith
+    go : (a b c d : Bool)
+        → ran p t (cond a (Load n k ∷ []) (cond b (Advance n ∷ []) (cond c (Unload n ∷ []) (cond d (Pull n ∷ []) [])))) .admitted ≤ 1
+    go true b c d = counts (isAdmitted (answer p (t .list) (Load n k)))
+    go false true c d = counts (isAdmitted (answer p (t .list) (Advance n)))
+    go false false true d = counts (isAdmitted (answer p (t .list) (Unload n)))
+    go false false false true = counts (isAdmitted (answer p (t .list) (Pull n)))
+    go false false false false = omega arith
 
 -- the event at one position, and all from there on
 module _ (letters jobs kinds : List ℕ) where

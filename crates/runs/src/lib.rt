@@ -33,7 +33,7 @@ fn counted(o: Outcome) -> Ran
     }
 }
 
-// One event: L loads, A advances, U unloads, as in an event line; another letter is no event.
+// One event: L loads, A advances, U unloads, X pulls, as in an event line; another letter is no event.
 fn step(t: Table, p: Plan, letter: u8, job: u32, kind: u32) -> Ran
     ensures { λ r. ⌜ r ≡ ran p t (eventOf letter job kind) ⌝ }
 {
@@ -45,6 +45,9 @@ fn step(t: Table, p: Plan, letter: u8, job: u32, kind: u32) -> Ran
     }
     if letter == b'U' {
         return counted(t.unload(p, job));
+    }
+    if letter == b'X' {
+        return counted(t.pull(p, job));
     }
     Ran {
         table: t,

@@ -15,7 +15,7 @@ use Rattle.moves_text.specs.Written.{decimal}
 use Rattle.moves_text.specs.Division.{planLength}
 use Rattle.moves_text.specs.EventLines.{eventIn}
 use Rattle.moves_text.specs.Output.{output}
-use Rattle.worked.specs.Texts.{capacityText, largeCapacityText, stagesText, moreStagesText, crossingText, wholeInput, wholeOutput, planNumbers}
+use Rattle.worked.specs.Texts.{capacityText, largeCapacityText, stagesText, moreStagesText, crossingText, wholeInput, wholeOutput, pullInput, pullOutput, planNumbers}
 use Rattle.worked.specs.Plans.{crossingWith, crossingPlan, equation40, withoutRows, oneStation, jobsPerStage}
 use Rattle.worked.specs.Runs.{Row, result, rows}
 
@@ -23,5 +23,5 @@ pub every-row-holds : map (λ (r : Row). result (r .asked)) rows ≡ map (λ (r 
 unfolding allStages stageOf demandOf weightOf overStages exceeded broken isStage fits agreeing soundCounts soundCapacities soundRanks soundLengths
     soundBounds soundStage sound rankedUpTo upstreamOf oneUnit faultyStage faultyType upstreamRow faultyRow faultyBound check listOf agrees
     answer listAfter drainFrom listDrain emptyPlan recordIn inRanges emptyDraft indexIn written heldIn isComplete reading decimal planLength eventIn output capacityText largeCapacityText stagesText
-    moreStagesText crossingText wholeInput wholeOutput planNumbers crossingWith crossingPlan equation40 withoutRows oneStation jobsPerStage result rows
+    moreStagesText crossingText wholeInput wholeOutput pullInput pullOutput planNumbers crossingWith crossingPlan equation40 withoutRows oneStation jobsPerStage result rows
 every-row-holds = refl

@@ -1,6 +1,6 @@
 -- Document 01's starred runs, as rows of one table: what is asked, and the numbers that the paper gives for it. With them the
--- crossing plan's text, the whole run, as events and from bytes to bytes, a number used again after its unload, and both sides of
--- the largest number.
+-- crossing plan's text, the whole run, as events and from bytes to bytes, a number used again after its unload, both sides of
+-- the largest number, and the pulls of change request S-1.
 use Prim.Native.Nat.{ℕ, zero, suc}
 use mathlib.Core.List.{List, [], _∷_, _++_, map}
 use Rattle.model.specs.Upstream.{check, checkNumbers}
@@ -12,11 +12,11 @@ use Rattle.events.specs.Events.{answer, listAfter, answerNumbers}
 use Rattle.events.specs.Drain.{listDrain, endNumber}
 use Rattle.events.specs.declared.JobList.{JobList}
 use Rattle.events.specs.declared.Event.{Event}
-use Rattle.events.specs.declared.Event.the-variants.{Load, Advance, Unload}
+use Rattle.events.specs.declared.Event.the-variants.{Load, Advance, Unload, Pull}
 use Rattle.plan_text.specs.TextQuestions.{textNumber}
 use Rattle.plan_text.specs.Reading.{reading}
 use Rattle.moves_text.specs.Output.{output}
-use Rattle.worked.specs.Texts.{capacityText, largeCapacityText, stagesText, moreStagesText, crossingText, wholeInput, wholeOutput, planNumbers}
+use Rattle.worked.specs.Texts.{capacityText, largeCapacityText, stagesText, moreStagesText, crossingText, wholeInput, wholeOutput, pullInput, pullOutput, planNumbers}
 use Rattle.worked.specs.Plans.{crossingWith, crossingPlan, equation40, withoutRows, oneStation, jobsPerStage}
 
 -- what is asked
@@ -75,10 +75,14 @@ row r xs = record { asked = r; expected = xs }
 wholeRun : List Event
 wholeRun = Load 7 1 ∷ Load 8 2 ∷ Advance 7 ∷ Load 8 2 ∷ Advance 7 ∷ Load 8 2 ∷ Unload 7 ∷ Load 8 2 ∷ []
 
+-- a job pulled in mid-route, and its number used again; pulled at its last stage, where it held what a load was refused for
+pullRun : List Event
+pullRun = Load 8 2 ∷ Advance 8 ∷ Pull 8 ∷ Load 8 2 ∷ Advance 8 ∷ Advance 8 ∷ Load 7 1 ∷ Pull 8 ∷ Load 7 1 ∷ []
+
 -- in document 01's order: the texts, the upstream check, the rows of Equation 40, the drains, the advance within one station; then the
 -- further runs
 unfoldable pub rows : List Row
-unfolding row wholeRun
+unfolding row wholeRun pullRun
 rows =
     row (read []) (7 ∷ 1 ∷ [])
     ∷ row (read capacityText) (7 ∷ 3 ∷ [])
@@ -104,4 +108,8 @@ rows =
     ∷ row (followed crossingPlan wholeRun)
     (0 ∷ 0 ∷ 1 ∷ 19 ∷ 2 ∷ 1 ∷ 0 ∷ 0 ∷ 1 ∷ 19 ∷ 2 ∷ 1 ∷ 0 ∷ 0 ∷ 1 ∷ 18 ∷ 3 ∷ 1 ∷ 0 ∷ 0 ∷ 0 ∷ 0 ∷ 0 ∷ 1 ∷ [])
     ∷ row (printed wholeInput) wholeOutput
+    ∷ row (printed pullInput) pullOutput
+    ∷ row (followed crossingPlan pullRun)
+    (0 ∷ 0 ∷ 1 ∷ 0 ∷ 0 ∷ 1 ∷ 0 ∷ 0 ∷ 0 ∷ 0 ∷ 0 ∷ 1 ∷ 0 ∷ 0 ∷ 1 ∷ 0 ∷ 0 ∷ 1 ∷ 18 ∷ 1 ∷ 1 ∷ 0 ∷ 0 ∷ 0 ∷ 0 ∷ 0 ∷ 1 ∷ [])
+    ∷ row (answered withoutRows (jobsPerStage 1 1 0 1 1 0) (Pull 11)) (0 ∷ 0 ∷ 1 ∷ 1 ∷ 2 ∷ [])
     ∷ []

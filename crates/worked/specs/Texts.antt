@@ -1,4 +1,4 @@
--- The texts of the worked runs, as document 01 writes them, and the numbers of a plan.
+-- The texts of the worked runs, as document 01 writes such, and the numbers of a plan.
 use Prim.Native.Nat.{ℕ}
 use mathlib.Core.List.{List, [], _∷_, _++_}
 use Rattle.model.specs.declared.Stage.{Stage}
@@ -40,6 +40,16 @@ unfoldable pub wholeOutput : List ℕ
 wholeOutput =
     quoted "P\t0\t0\nQ\t0\t0\t0\n"
     ++ quoted "1\t0\t0\t1\n2\t19\t2\t1\n3\t0\t0\t1\n4\t19\t2\t1\n5\t0\t0\t1\n6\t18\t3\t1\n7\t0\t0\t0\n8\t0\t0\t1\n"
+
+-- the crossing plan with pulls: of a job at stage 1, of number 0, of a job that is gone
+unfoldable pub pullInput : List ℕ
+unfolding crossingText
+pullInput = crossingText ++ quoted "E\nL\t7\t1\nL\t8\t2\nX\t7\nL\t8\t2\nX\t0\nX\t7\n"
+
+unfoldable pub pullOutput : List ℕ
+pullOutput =
+    quoted "P\t0\t0\nQ\t0\t0\t0\n"
+    ++ quoted "1\t0\t0\t1\n2\t19\t2\t1\n3\t0\t0\t0\n4\t0\t0\t1\n5\t13\t0\t1\n6\t14\t0\t1\n"
 
 -- all numbers of a plan
 stageNumbers : List Stage → List ℕ

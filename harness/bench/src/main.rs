@@ -8,7 +8,7 @@ use library::{cell, Answer, CELL, MAX_OUTPUT};
 use measure::{measure, print_head, time, ROUNDS};
 use plans::{conforming_plan, event_plan, event_table, first_stages, full_text, Size};
 use reference::drain::drain;
-use reference::event::advance;
+use reference::event;
 use reference::run::run;
 use reference::text::read_plan;
 use reference::upstream::check;
@@ -68,7 +68,7 @@ fn read_lines() {
 fn fixed_line() {
     let mut table = Table::EMPTY;
     let mut bytes = cell::encode(&Plan::EMPTY, &table);
-    assert_eq!(advance(&Plan::EMPTY, &mut table, 1).number, 11);
+    assert_eq!(event::advance(&Plan::EMPTY, &mut table, 1).number, 11);
     assert_eq!(library::advance(&mut bytes, 1), answer(11, 0, 0));
     measure(
         "advance, refused (11), the empty plan",
@@ -76,7 +76,11 @@ fn fixed_line() {
             black_box(library::advance(&mut bytes, black_box(1)));
         },
         || {
-            black_box(advance(black_box(&Plan::EMPTY), &mut table, black_box(1)));
+            black_box(event::advance(
+                black_box(&Plan::EMPTY),
+                &mut table,
+                black_box(1),
+            ));
         },
     );
 }
@@ -94,34 +98,70 @@ fn copy_time() -> String {
     })
 }
 
-/// An admitted advance of the last job, and one that the last row refuses.
+/// An event of one job at a cell, and at a plan with its table.
+type Calls = (
+    fn(&mut [u8], u32) -> Answer,
+    fn(&Plan, &mut Table, u32) -> event::Answer,
+);
+
+/// An admitted advance of the last job; one that the last row refuses; and a pull of the first,
+/// behind which all the others close up.
 fn event_lines(size: Size, jobs: usize) {
-    for refused in [false, true] {
-        let before = event_table(size, jobs);
-        let plan = event_plan(size, refused.then_some(&before));
-        let job = jobs as u32;
-        let mut table = before.clone();
-        let mut bytes = cell::encode(&plan, &before);
-        let restored = bytes[cell::TABLE..].to_vec();
-        let expected = advance(&plan, &mut table, job);
-        assert_eq!(expected.number, if refused { 19 } else { 0 });
-        let found = library::advance(&mut bytes, job);
-        assert_eq!(found, answer(expected.number, expected.place, 0));
-        assert_eq!(bytes, cell::encode(&plan, &table));
-        let outcome = if refused { "refused (19)" } else { "admitted" };
-        let plural = if jobs == 1 { "" } else { "s" };
-        measure(
-            &format!("advance, {outcome}, {jobs} job{plural}, {size}"),
-            || {
-                bytes[cell::TABLE..].copy_from_slice(black_box(&restored));
-                black_box(library::advance(&mut bytes, black_box(job)));
-            },
-            || {
-                table.clone_from(black_box(&before));
-                black_box(advance(black_box(&plan), &mut table, black_box(job)));
-            },
-        );
-    }
+    let before = event_table(size, jobs);
+    let plan = event_plan(size, None);
+    let tight = event_plan(size, Some(&before));
+    let last = jobs as u32;
+    let advances: Calls = (library::advance, event::advance);
+    let pulls: Calls = (library::pull, event::pull);
+    let plural = if jobs == 1 { "" } else { "s" };
+    let of = format!("{jobs} job{plural}, {size}");
+    event_line(
+        &format!("advance, admitted, {of}"),
+        &plan,
+        &before,
+        last,
+        0,
+        advances,
+    );
+    event_line(
+        &format!("advance, refused (19), {of}"),
+        &tight,
+        &before,
+        last,
+        19,
+        advances,
+    );
+    event_line(
+        &format!("pull of the first, {of}"),
+        &plan,
+        &before,
+        1,
+        0,
+        pulls,
+    );
+}
+
+fn event_line(what: &str, plan: &Plan, before: &Table, job: u32, number: u32, calls: Calls) {
+    let (at_cell, at_table) = calls;
+    let mut table = before.clone();
+    let mut bytes = cell::encode(plan, before);
+    let restored = bytes[cell::TABLE..].to_vec();
+    let expected = at_table(plan, &mut table, job);
+    assert_eq!(expected.number, number);
+    let found = at_cell(&mut bytes, job);
+    assert_eq!(found, answer(expected.number, expected.place, 0));
+    assert_eq!(bytes, cell::encode(plan, &table));
+    measure(
+        what,
+        || {
+            bytes[cell::TABLE..].copy_from_slice(black_box(&restored));
+            black_box(at_cell(&mut bytes, black_box(job)));
+        },
+        || {
+            table.clone_from(black_box(before));
+            black_box(at_table(black_box(plan), &mut table, black_box(job)));
+        },
+    );
 }
 
 fn check_lines(size: Size) {

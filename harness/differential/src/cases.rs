@@ -187,6 +187,7 @@ fn pattern_case(random: &mut Random, counts: &mut Counts) -> Result<(), String> 
             events::load(random, plan, table),
             events::advance(random, table),
             events::unload(random, plan, table),
+            events::pull(random, table),
             Call::Drain {
                 budget: events::budget(random, plan, table),
             },
@@ -227,7 +228,8 @@ fn run_input_case(random: &mut Random, counts: &mut Counts) -> Result<(), String
     Ok(())
 }
 
-/// Under a plan that meets the upstream check, every table that events reach can be emptied.
+/// Under a plan that meets the upstream check, every table that events reach, pulls among them,
+/// can be emptied.
 fn emptying_case(random: &mut Random, counts: &mut Counts) -> Result<(), String> {
     let size = plans::size(random);
     let size = if size == Size::Largest {

@@ -6,7 +6,7 @@ use crate::guarded::Guarded;
 use crate::random::Random;
 use library::{cell, Answer, CELL, MAX_OUTPUT};
 use reference::drain::drain;
-use reference::event::{advance, load, unload};
+use reference::event::{advance, load, pull, unload};
 use reference::text::read_plan;
 use reference::upstream::check;
 use reference::{Plan, Table};
@@ -18,6 +18,7 @@ pub enum Call {
     Load { job: u32, job_type: u32 },
     Advance { job: u32 },
     Unload { job: u32 },
+    Pull { job: u32 },
     Drain { budget: u32 },
 }
 
@@ -99,6 +100,7 @@ impl Sides<'_> {
             Call::Load { job, job_type } => event(load(plan, table, job, job_type)),
             Call::Advance { job } => event(advance(plan, table, job)),
             Call::Unload { job } => event(unload(plan, table, job)),
+            Call::Pull { job } => event(pull(plan, table, job)),
             Call::Drain { budget } => {
                 let drained = drain(plan, table, budget);
                 answer(drained.number, drained.moves, 0)
@@ -115,6 +117,7 @@ impl Sides<'_> {
             Call::Load { job, job_type } => library::load(bytes, job, job_type),
             Call::Advance { job } => library::advance(bytes, job),
             Call::Unload { job } => library::unload(bytes, job),
+            Call::Pull { job } => library::pull(bytes, job),
             Call::Drain { budget } => library::drain(bytes, budget),
         }
     }

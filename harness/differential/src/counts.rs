@@ -9,6 +9,7 @@ pub enum Group {
     Load,
     Advance,
     Unload,
+    Pull,
     Check,
     Drain,
     /// From the output of whole runs: the P line, the Q line and the event lines.
@@ -19,7 +20,7 @@ pub enum Group {
     Fit,
 }
 
-const GROUPS: usize = 10;
+const GROUPS: usize = 11;
 const NUMBERS: usize = 42;
 
 #[derive(Clone, Debug)]
@@ -34,11 +35,12 @@ const REQUIRED: &[(&str, &[Group], &[usize])] = {
         ("plan text", &[Text], &[0, 1, 2, 3, 4, 5, 6, 7, 9]),
         (
             "event",
-            &[Load, Advance, Unload],
+            &[Load, Advance, Unload, Pull],
             &[0, 9, 11, 12, 13, 14, 15, 16, 17, 18, 19],
         ),
         ("event, load", &[Load], &[18, 19]),
         ("event, advance", &[Advance], &[18, 19]),
+        ("event, pull", &[Pull], &[0, 9, 11, 12, 13, 14]),
         ("check", &[Check], &[0, 9, 11, 21, 22, 23, 24, 25]),
         ("drain", &[Drain], &[0, 9, 11, 12, 31, 32]),
         ("run, P line", &[RunPlan], &[0, 1, 2, 3, 4, 5, 6, 7]),
@@ -71,6 +73,7 @@ impl Counts {
             Call::Load { .. } => Group::Load,
             Call::Advance { .. } => Group::Advance,
             Call::Unload { .. } => Group::Unload,
+            Call::Pull { .. } => Group::Pull,
             Call::Drain { .. } => Group::Drain,
         };
         self.add(group, number);

@@ -32,12 +32,12 @@ pub fn call(random: &mut Random, course: Course, plan: &Plan, table: &Table) -> 
     }
 }
 
-/// A load, an advance or an unload.
+/// A load, an advance, an unload or a pull.
 pub fn event(random: &mut Random, course: Course, plan: &Plan, table: &Table) -> Call {
-    let (loads, unloads) = match course {
-        Course::Loading => (80, 10),
-        Course::Moving => (15, 30),
-        Course::Mixed => (40, 25),
+    let (loads, unloads, pulls) = match course {
+        Course::Loading => (80, 8, 3),
+        Course::Moving => (15, 28, 6),
+        Course::Mixed => (40, 23, 6),
     };
     let part = random.below(100);
     let idle = table.count == 0 && random.chance(90);
@@ -45,6 +45,8 @@ pub fn event(random: &mut Random, course: Course, plan: &Plan, table: &Table) ->
         load(random, plan, table)
     } else if part < loads + unloads {
         unload(random, plan, table)
+    } else if part < loads + unloads + pulls {
+        pull(random, table)
     } else {
         advance(random, table)
     }
@@ -83,6 +85,13 @@ pub fn unload(random: &mut Random, plan: &Plan, table: &Table) -> Call {
         false => random.pick(&last).number,
     };
     Call::Unload { job }
+}
+
+/// Of a job at any stage.
+pub fn pull(random: &mut Random, table: &Table) -> Call {
+    Call::Pull {
+        job: some_number(random, table),
+    }
 }
 
 /// Budgets around the number of moves that would empty the table, and the extremes.

@@ -17,7 +17,10 @@ const NOT_E: &[&[u8]] = &[
 /// Event lines of another form, parted by `|`.
 const MALFORMED: &[u8] = b"E|L|L\t|L\t1|L\t1\t|L\t\t1|L\t1\t1\t1|L\t1\t1\t|L\t000001\t1|L\t1\t100000|\
 L 1 1|l\t1\t1|A|A\t|A\t1\t1|A\t1\t|A\t100000|A\t1\r|AA\t1|\tA\t1|A\t+1|U|U\t-1|U\t1 |U\t1\t1|U\t1\0|u\t1|\
-X\t1| |\t|C\t1\t1\t0|\x80|D\t5| #";
+X|X\t|X\t1\t1|X\t1\t|X\t000001|X\t100000|X\t1\r|XX\t1|\tX\t1|X\t-1|x\t1|Y\t1| |\t|C\t1\t1\t0|\x80|D\t5| #";
+
+/// Last lines without their LF.
+const UNENDED: &[&[u8]] = &[b"#", b"# x", b"L\t1\t1", b"A\t1", b"U\t1", b"X\t1"];
 
 /// An input of any kind.
 pub fn input(random: &mut Random) -> Vec<u8> {
@@ -48,7 +51,7 @@ pub fn input(random: &mut Random) -> Vec<u8> {
         change_bytes(random, &mut input);
     }
     if random.chance(2) {
-        input.extend_from_slice(random.pick(&[&b"#"[..], b"# x", b"L\t1\t1", b"A\t1", b"U\t1"]));
+        input.extend_from_slice(random.pick(UNENDED));
     }
     if random.chance(2) {
         pad(random, &mut input);
@@ -78,7 +81,7 @@ fn plan_text(random: &mut Random) -> Vec<u8> {
 }
 
 /// An event line without its LF. `loaded` holds the numbers that were probably loaded, so that
-/// advances and unloads mostly meet active jobs.
+/// the other events mostly meet active jobs.
 fn event_line(random: &mut Random, types: usize, loaded: &mut Vec<usize>) -> Vec<u8> {
     let width = if random.chance(10) {
         random.between(1, 5)
@@ -105,7 +108,8 @@ fn event_line(random: &mut Random, types: usize, loaded: &mut Vec<usize>) -> Vec
             if random.chance(50) {
                 loaded.retain(|&other| other != job);
             }
-            format!("U\t{job:0width$}")
+            let letter = random.pick(&['U', 'U', 'X']);
+            format!("{letter}\t{job:0width$}")
         }
         87..=91 => return skipped(random),
         92 => return b"#\x80\r\0".to_vec(),

@@ -13,7 +13,7 @@ type Record = (char, Vec<u32>);
 const LIMIT: usize = 65_536;
 
 /// Bytes that mean something in a text, or lie just outside of what it may hold.
-const BYTES: &[u8] = b"\t\n\r 0159#CRTSBAKELU!~/:@\x00\x1f\x7f\x80\xff";
+const BYTES: &[u8] = b"\t\n\r 0159#CRTSBAKELUX!~/:@\x00\x1f\x7f\x80\xff";
 
 /// Numbers at the ends of ranges, and fields that are no numbers, parted by `|`.
 const FIELDS: &str = "0|1|2|3|15|16|17|31|32|33|64|65|127|128|129|254|255|256|257|511|512|65534|\

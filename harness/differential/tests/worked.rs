@@ -1,4 +1,5 @@
-//! The worked runs of document 01 asked of the library itself, without the reference.
+//! The worked runs of document 01, and pulls (document 02, S-1), asked of the library itself,
+//! without the reference.
 
 use library::{cell, Answer, CELL, MAX_OUTPUT};
 use std::collections::BTreeSet;
@@ -39,14 +40,47 @@ fn counts(bytes: &[u8]) -> [u8; 6] {
     counts
 }
 
+/// What a run of the crossing plan prints of its events.
+fn assert_printed(events: &str, printed: &str) {
+    let input = tabbed(&format!("{CROSSING}E/{events}"));
+    let printed = tabbed(&format!("P 0 0/Q 0 0 0/{printed}"));
+    let mut output = vec![0; MAX_OUTPUT];
+    let length = library::run(&input, &mut output);
+    assert_eq!(output[..length], printed, "{events}");
+}
+
 #[test]
 fn whole_run() {
-    let input = format!("{CROSSING}E/L 7 1/L 8 2/A 7/L 8 2/A 7/L 8 2/U 7/L 8 2/");
-    let printed =
-        "P 0 0/Q 0 0 0/1 0 0 1/2 19 2 1/3 0 0 1/4 19 2 1/5 0 0 1/6 18 3 1/7 0 0 0/8 0 0 1/";
-    let mut output = vec![0; MAX_OUTPUT];
-    let length = library::run(&tabbed(&input), &mut output);
-    assert_eq!(output[..length], tabbed(printed));
+    assert_printed(
+        "L 7 1/L 8 2/A 7/L 8 2/A 7/L 8 2/U 7/L 8 2/",
+        "1 0 0 1/2 19 2 1/3 0 0 1/4 19 2 1/5 0 0 1/6 18 3 1/7 0 0 0/8 0 0 1/",
+    );
+}
+
+/// Pulls at stage 1, in mid-route and at the last stage; the first and the last let in a load.
+#[test]
+fn whole_run_with_pulls() {
+    let runs = [
+        (
+            "L 7 1/L 8 2/X 7/L 8 2/",
+            "1 0 0 1/2 19 2 1/3 0 0 0/4 0 0 1/",
+        ),
+        (
+            "L 7 1/A 7/X 7/X 7/L 7 1/X 0/X 65536/",
+            "1 0 0 1/2 0 0 1/3 0 0 0/4 14 0 0/5 0 0 1/6 13 0 1/7 13 0 1/",
+        ),
+        (
+            "L 7 1/A 7/A 7/L 8 2/X 7/L 8 2/",
+            "1 0 0 1/2 0 0 1/3 0 0 1/4 18 3 1/5 0 0 0/6 0 0 1/",
+        ),
+        (
+            "L 7 1/X/X 7 7/X 000007/x 7/X 00007/X 7",
+            "1 0 0 1/2 41 0 1/3 41 0 1/4 41 0 1/5 41 0 1/6 0 0 0/7 41 0 0/",
+        ),
+    ];
+    for (events, printed) in runs {
+        assert_printed(events, printed);
+    }
 }
 
 #[test]
@@ -132,6 +166,55 @@ fn full_table() {
     assert_eq!(library::load(&mut bytes, 65, 1), answer(16, 0, 0));
     assert_eq!(library::load(&mut bytes, 65, 2), answer(15, 0, 0));
     assert_eq!(library::load(&mut bytes, 64, 2), answer(14, 0, 0));
+}
+
+/// A job is pulled at whichever stage it has.
+#[test]
+fn pulls_at_every_stage() {
+    for place in 0..6 {
+        let mut one = [0; 6];
+        one[place] = 1;
+        let mut bytes = cell(CROSSING, one);
+        assert_eq!(library::pull(&mut bytes, 1), answer(0, 0, 0));
+        assert_eq!(bytes, cell(CROSSING, [0; 6]));
+    }
+}
+
+/// The others keep their order: from the locked table one pull leaves jobs 1, 3 and 4, which
+/// have 3, 3 and 2 stages before them.
+#[test]
+fn pull_from_a_locked_table() {
+    let mut bytes = cell(WITHOUT_ROWS, [1, 1, 0, 1, 1, 0]);
+    assert_eq!(library::drain(&mut bytes, 9), answer(32, 0, 0));
+    assert_eq!(library::pull(&mut bytes, 2), answer(0, 0, 0));
+    let mut left = table([1, 0, 0, 1, 1, 0]);
+    left.jobs[1].number = 3;
+    left.jobs[2].number = 4;
+    assert_eq!(cell::decode_table(&bytes), left);
+    assert_eq!(library::drain(&mut bytes, 9), answer(0, 8, 0));
+}
+
+/// A refused pull writes no byte.
+#[test]
+fn refused_pulls() {
+    let broken = cell(EQUATION_40, [1, 1, 0, 1, 1, 0]);
+    let kept = cell(EQUATION_40, [1, 0, 0, 1, 1, 0]);
+    let mut unsound = kept.clone();
+    unsound[cell::TYPES] = 0;
+    let short = kept[..CELL - 1].to_vec();
+    let cases = [
+        (short, 1, 9),
+        (unsound, 1, 11),
+        (broken, 1, 12),
+        (kept.clone(), 0, 13),
+        (kept.clone(), 65_536, 13),
+        (kept, 99, 14),
+    ];
+    for (before, job, number) in cases {
+        let mut after = before.clone();
+        assert_eq!(library::pull(&mut after, job), answer(number, 0, 0));
+        assert_eq!(after, before);
+    }
 }
 
 /// The 47 states of Table 1 in source document 003.

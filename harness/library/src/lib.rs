@@ -37,6 +37,7 @@ mod c {
         pub fn rilthoss_load(cell: *mut u8, cell_length: usize, job: u32, job_type: u32) -> u64;
         pub fn rilthoss_advance(cell: *mut u8, cell_length: usize, job: u32) -> u64;
         pub fn rilthoss_unload(cell: *mut u8, cell_length: usize, job: u32) -> u64;
+        pub fn rilthoss_pull(cell: *mut u8, cell_length: usize, job: u32) -> u64;
         pub fn rilthoss_drain(cell: *mut u8, cell_length: usize, budget: u32) -> u64;
         pub fn rilthoss_run(
             input: *const u8,
@@ -74,6 +75,11 @@ pub fn advance(cell: &mut [u8], job: u32) -> Answer {
 /// First is the place.
 pub fn unload(cell: &mut [u8], job: u32) -> Answer {
     unsafe { c::rilthoss_unload(cell.as_mut_ptr(), cell.len(), job) }.into()
+}
+
+/// First is the place.
+pub fn pull(cell: &mut [u8], job: u32) -> Answer {
+    unsafe { c::rilthoss_pull(cell.as_mut_ptr(), cell.len(), job) }.into()
 }
 
 /// First is the number of moves made.

@@ -1,4 +1,5 @@
-//! The events load, advance and unload (document 01, "Table and events").
+//! The events load, advance and unload (document 01, "Table and events"), and pull (document 02,
+//! S-1).
 
 use crate::plan::{index, Plan};
 use crate::table::{Job, Table, Usage, MAX_JOBS, MAX_NUMBER};
@@ -15,6 +16,7 @@ pub enum Event {
     Load { job: u32, job_type: u32 },
     Advance { job: u32 },
     Unload { job: u32 },
+    Pull { job: u32 },
 }
 
 impl Event {
@@ -23,6 +25,7 @@ impl Event {
             Event::Load { job, job_type } => load(plan, table, job, job_type),
             Event::Advance { job } => advance(plan, table, job),
             Event::Unload { job } => unload(plan, table, job),
+            Event::Pull { job } => pull(plan, table, job),
         }
     }
 }
@@ -37,6 +40,10 @@ pub fn advance(plan: &Plan, table: &mut Table, job: u32) -> Answer {
 
 pub fn unload(plan: &Plan, table: &mut Table, job: u32) -> Answer {
     answer(try_unload(plan, table, job))
+}
+
+pub fn pull(plan: &Plan, table: &mut Table, job: u32) -> Answer {
+    answer(try_pull(plan, table, job))
 }
 
 fn answer(outcome: Result<(), Answer>) -> Answer {
@@ -74,15 +81,21 @@ fn try_load(plan: &Plan, table: &mut Table, number: u32, job_type: u32) -> Resul
 }
 
 fn try_advance(plan: &Plan, table: &mut Table, number: u32) -> Result<(), Answer> {
-    let mut usage = ask_agreement(plan, table)?;
-    let position = find(table, number)?.ok_or(refusal(14))?;
+    let (mut usage, position) = ask_active(plan, table, number)?;
     advance_at(plan, table, &mut usage, position)
 }
 
 fn try_unload(plan: &Plan, table: &mut Table, number: u32) -> Result<(), Answer> {
-    let mut usage = ask_agreement(plan, table)?;
-    let position = find(table, number)?.ok_or(refusal(14))?;
+    let (mut usage, position) = ask_active(plan, table, number)?;
     unload_at(plan, table, &mut usage, position)
+}
+
+/// A job leaves from whichever stage it has, so question 17 is not asked. It only gives back, so
+/// questions 18 and 19 cannot fail.
+fn try_pull(plan: &Plan, table: &mut Table, number: u32) -> Result<(), Answer> {
+    let (_, position) = ask_active(plan, table, number)?;
+    table.remove(position);
+    Ok(())
 }
 
 /// Questions 11 and 12.
@@ -91,6 +104,14 @@ pub(crate) fn ask_agreement(plan: &Plan, table: &Table) -> Result<Usage, Answer>
         return Err(refusal(11));
     }
     table.usage(plan).ok_or(refusal(12))
+}
+
+/// Questions 11 to 14 of an event whose job must be active; then what the table uses and where
+/// the job stands.
+fn ask_active(plan: &Plan, table: &Table, number: u32) -> Result<(Usage, usize), Answer> {
+    let usage = ask_agreement(plan, table)?;
+    let position = find(table, number)?.ok_or(refusal(14))?;
+    Ok((usage, position))
 }
 
 /// Question 13; then where the job stands, if it is active.

@@ -1,5 +1,5 @@
-//! Document 01 in ordinary safe Rust: the expected answers of the differential tests and the
-//! other side of the benchmark. Written from the document alone.
+//! Document 01 and request S-1 of document 02 in ordinary safe Rust: the expected answers of the
+//! differential tests and the other side of the benchmark. Written from the documents alone.
 
 #![forbid(unsafe_code)]
 

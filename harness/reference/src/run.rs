@@ -1,4 +1,5 @@
-//! The whole run of `cellmoves` over its input (document 01, "The program").
+//! The whole run of `cellmoves` over its input (document 01, "The program"; the letter X:
+//! document 02, S-1).
 
 use crate::event::{Answer, Event};
 use crate::table::Table;
@@ -74,6 +75,7 @@ fn read_event(line: &[u8]) -> Option<Event> {
         }
         b"A" => Event::Advance { job },
         b"U" => Event::Unload { job },
+        b"X" => Event::Pull { job },
         _ => return None,
     };
     parts.next().is_none().then_some(event)

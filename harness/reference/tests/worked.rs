@@ -9,14 +9,7 @@ use reference::{Job, Plan, Table};
 
 mod document;
 
-use document::{tabbed, table, CROSSING, EQUATION_40, WITHOUT_ROWS};
-
-fn plan(text: &str) -> Plan {
-    let text = tabbed(text);
-    let reading = read_plan(&text);
-    assert_eq!((reading.number, reading.line), (0, 0));
-    reading.plan
-}
+use document::{plan, tabbed, table, CROSSING, EQUATION_40, WITHOUT_ROWS};
 
 /// Number and line of a text's answer; a refusal gives the empty plan.
 fn read(text: &str) -> (u32, u32) {

@@ -24,9 +24,9 @@ use Rattle.parts.proofs.StageIndex.{from-within, to-within, old-read, new-read}
 use Rattle.parts.proofs.SumsAfter.{kept-same}
 use Rattle.parts.proofs.ListChanges.{advanced-list}
 use Rattle.parts.proofs.QuestionParts.{admitted-outcome, refused-outcome}
-use Rattle.parts.proofs.MoveQuestions.{Stands, active, advance-goes}
-use Rattle.admit.proofs.MoveOpening as opening
-use Rattle.admit.proofs.MoveOpening.{opening-refused}
+use Rattle.parts.proofs.ActiveQuestions.{Stands, active, advance-goes}
+use Rattle.admit.proofs.ActiveOpening as opening
+use Rattle.admit.proofs.ActiveOpening.{opening-refused}
 use Rattle.admit.proofs.advance.Statement.{statement}
 use Rattle.admit.proofs.advance.Tie as tie
 
@@ -45,19 +45,19 @@ module _ (c : tie.After-enum-told) where
   event = Advance (start .args .job)
 
   abbrev j : Job
-  j = c .before .before .ask-move .result .found .job
+  j = c .before .before .ask-active .result .found .job
 
-  met : isAdmitted (c .before .before .ask-move .result .answer) ≡ true
+  met : isAdmitted (c .before .before .ask-active .result .answer) ≡ true
   met = ap isAdmitted (c .enum-told .given .1)
 
   stands : Stands plan list (start .args .job)
-  stands = opening.stands (c .before .before .ask-move .ensures) met
+  stands = opening.stands (c .before .before .ask-active .ensures) met
 
   named : j ≡ jobOf (start .args .job) (jobsOf list)
-  named = opening.named (c .before .before .ask-move .ensures)
+  named = opening.named (c .before .before .ask-active .ensures)
 
   found-next : HasNext plan (jobOf (start .args .job) (jobsOf list))
-  found-next = ltb-true _ _ (opening.right-stage (c .before .before .ask-move .ensures) met)
+  found-next = ltb-true _ _ (opening.right-stage (c .before .before .ask-active .ensures) met)
 
   more : HasNext plan j
   more = subst⁻¹ (HasNext plan) named found-next
@@ -69,12 +69,12 @@ module _ (c : tie.After-stage-index) where
 
   from-there : c .stage-index .result < maxAllStages
   from-there =
-      let asked = going .before .before .ask-move .ensures in
+      let asked = going .before .before .ask-active .ensures in
       from-within (plan going) (stands going .sound) (j going) (opening.staged asked (met going)) (more going) _ (c .stage-index .ensures)
 
   to-there : c .stage-index .result + 1 < maxAllStages
   to-there =
-      let asked = going .before .before .ask-move .ensures in
+      let asked = going .before .before .ask-active .ensures in
       to-within (plan going) (stands going .sound) (j going) (opening.staged asked (met going)) (more going) _ (c .stage-index .ensures)
 
 -- what the sums say
@@ -87,7 +87,7 @@ module _ (c : tie.After-kept-after) where
 
   says : answer (plan m) (list m) (event m) ≡ c .kept-after .result
   says =
-      let asked = m .before .before .ask-move .ensures in
+      let asked = m .before .before .ask-active .ensures in
       let agrees = opening.agrees asked (met m) in
       let sums = ap (λ (a : Agreement). a .sums) agrees in
       let ceilings = ap (λ (a : Agreement). a .ceilings) agrees in
@@ -100,8 +100,8 @@ module _ (c : tie.After-kept-after) where
       let new = new-read (plan m) (stands m .sound) (j m) staged (more m) _ index _ slots ∙ ap next′ (named m) in
       advance-goes (stands m) (found-next m) _ _ old new ∙ sym (c .kept-after .ensures ∙ kept-same sums ceilings refl _)
 
-ask-move-requires : tie.Need-ask-move-requires
-ask-move-requires c κs = tt
+ask-active-requires : tie.Need-ask-active-requires
+ask-active-requires c κs = tt
 
 enum-told : tie.Need-enum-told
 enum-told c = search needs
@@ -111,7 +111,7 @@ refused-requires c κs = tt
 
 returns : tie.Need-returns
 returns c =
-    let asked = c .before .before .ask-move in
+    let asked = c .before .before .ask-active in
     c .refused .ensures ∙ opening-refused (asked .ensures) (refused-tag (asked .result .answer) (c .before .match .keys2))
 
 stage-index-requires : tie.Need-stage-index-requires
@@ -147,10 +147,10 @@ returns-2 c =
     let refused = refused-tag (kept .kept-after .result) (c .before .match2 .keys2) in
     c .refused2 .ensures ∙ refused-outcome (plan (m kept)) (list (m kept)) (event (m kept)) _ (says kept) refused
 
-add-t26 : tie.Need-add-t26
-add-t26 c =
+add-stage : tie.Need-add-stage
+add-stage c =
     let h = m (c .before .before .before) in
-    let staged = opening.staged (h .before .before .ask-move .ensures) (met h) in
+    let staged = opening.staged (h .before .before .ask-active .ensures) (met h) in
     omega (arith, more h, stands h .sound .lengths _ (staged .0))
 
 with-replaced-requires : tie.Need-with-replaced-requires
@@ -160,7 +160,7 @@ returns-3 : tie.Need-returns-3
 returns-3 c =
     let kept = c .before .before .before .before in
     let h = m kept in
-    let position = opening.position (h .before .before .ask-move .ensures) in
+    let position = opening.position (h .before .before .ask-active .ensures) in
     let leads =
     c .with-replaced .ensures
     ∙ (λ i. withReplaced (list h) (position i) (advancedJob (plan h) (named h i)))
@@ -173,7 +173,7 @@ pub advance-spec : {M : Type 1} → statement M
 advance-spec =
     tie.close
     (tie.spec
-    ask-move-requires
+    ask-active-requires
     enum-told
     refused-requires
     returns
@@ -187,6 +187,6 @@ advance-spec =
     enum-told-2
     refused-requires-2
     returns-2
-    add-t26
+    add-stage
     with-replaced-requires
     returns-3)

@@ -1,58 +1,22 @@
--- The questions are asked in parts; a job at its last stage can always be unloaded.
-use mathlib.Core.Bool.{true}
-use mathlib.Core.Path.{_≡_, sym, ap, _∙_}
-use borrow.Author.Needs.{needs}
+-- The job goes where the questions are met; at its last stage that is always admitted.
+use mathlib.Core.Path.{refl, sym, _∙_}
 use borrow.Author.Tests.{eqb-true}
-use Rattle.events.specs.Events.{isAdmitted}
-use Rattle.events.specs.declared.Event.the-variants.{Unload}
-use Rattle.events.proofs.AnswerTags.{refused-tag}
-use Rattle.parts.specs.Parts.{withoutJob}
-use Rattle.parts.proofs.ListChanges.{unloaded-list}
-use Rattle.parts.proofs.QuestionParts.{admitted-outcome}
-use Rattle.parts.proofs.MoveQuestions.{active, unload-goes}
-use Rattle.admit.proofs.MoveOpening.{opening-refused, position, stands, right-stage}
+use Rattle.parts.specs.declared.StageAsked.the-variants.{Last}
+use Rattle.parts.proofs.ActiveQuestions.{unload-goes}
+use Rattle.admit.proofs.RemovalOutcome.{removal-outcome}
 use Rattle.admit.proofs.unload.Statement.{statement}
 use Rattle.admit.proofs.unload.Tie as tie
 
-ask-move-requires : tie.Need-ask-move-requires
-ask-move-requires c κs = tt
+ask-active-requires : tie.Need-ask-active-requires
+ask-active-requires c κs = tt
 
-enum-told : tie.Need-enum-told
-enum-told c = search needs
-
-refused-requires : tie.Need-refused-requires
-refused-requires c κs = tt
+removal-requires : tie.Need-removal-requires
+removal-requires c κs = tt
 
 returns : tie.Need-returns
 returns c =
-    let asked = c .before .before .ask-move in
-    c .refused .ensures ∙ opening-refused (asked .ensures) (refused-tag (asked .result .answer) (c .before .match .keys2))
-
-without-job-requires : tie.Need-without-job-requires
-without-job-requires c κs = tt
-
-returns-2 : tie.Need-returns-2
-returns-2 c =
-    let told = c .before .before in
-    let asked = told .before .before .ask-move in
-    let a = told .before .before .before .args in
-    let met : isAdmitted (asked .result .answer) ≡ true = ap isAdmitted (told .enum-told .given .1) in
-    let s = stands (asked .ensures) met in
-    let goes = unload-goes s (sym (eqb-true _ _ (right-stage (asked .ensures) met))) in
-    let leads =
-    c .without-job .ensures
-    ∙ ap (withoutJob (a .t)) (position (asked .ensures))
-    ∙ unloaded-list (a .p) (a .t) (s .agrees) (a .job) (active s)
-    in
-    admitted-outcome (a .p) (a .t) (Unload (a .job)) (asked .result .answer) (goes ∙ sym (told .enum-told .given .1)) met (c .without-job .result) leads
+    c .removal .ensures
+    ∙ removal-outcome Last (c .before .before .ask-active .ensures) refl (λ stands met. unload-goes stands (sym (eqb-true _ _ met)))
 
 pub unload-spec : {M : Type 1} → statement M
-unload-spec =
-    tie.close
-    (tie.spec
-    ask-move-requires
-    enum-told
-    refused-requires
-    returns
-    without-job-requires
-    returns-2)
+unload-spec = tie.close (tie.spec ask-active-requires removal-requires returns)

@@ -25,6 +25,9 @@ no-advance c = passed-over _ 65 _ (⊎-map (λ w. (w .0 .taken, w .1 .left)) (λ
 no-unload : (c : tie.Joined5) → Passed (c .before .before .before) 85 1
 no-unload c = passed-over _ 85 _ (⊎-map (λ w. (w .0 .taken, w .1 .left)) (λ w. w .left) (c .if5 .came))
 
+no-pull : (c : tie.Joined7) → Passed (c .before .before .before .before) 88 1
+no-pull c = passed-over _ 88 _ (⊎-map (λ w. (w .0 .taken, w .1 .left)) (λ w. w .left) (c .if7 .came))
+
 array-read-first : tie.Need-array-read-first
 array-read-first c = search needs
 
@@ -41,8 +44,13 @@ returns-3 : tie.Need-returns-3
 returns-3 c = let j = c .before .before in rw (no-load (j .before), no-advance j, eq-eqb _ 85 (c .before .if5 .taken), c .if6 .taken) refl
 
 returns-4 : tie.Need-returns-4
-returns-4 c = rw (no-load (c .before .before), no-advance (c .before), no-unload c) refl
+returns-4 c =
+    let j = c .before .before in
+    rw (no-load (j .before .before), no-advance (j .before), no-unload j, eq-eqb _ 88 (c .before .if7 .taken), c .if8 .taken) refl
+
+returns-5 : tie.Need-returns-5
+returns-5 c = let j = c .before in rw (no-load (j .before .before), no-advance (j .before), no-unload j, no-pull c) refl
 
 pub event-with-spec : {M : Type 1} → statement M
 event-with-spec =
-    tie.close (tie.spec array-read-first array-read-second returns returns-2 returns-3 returns-4)
+    tie.close (tie.spec array-read-first array-read-second returns returns-2 returns-3 returns-4 returns-5)

@@ -1,7 +1,7 @@
 -- The letter says which event is run, if any.
 use mathlib.Core.Path.{refl}
 use borrow.Author.Tests.{eq-eqb, ne-eqb}
-use Rattle.events.specs.declared.Event.the-variants.{Load, Advance, Unload}
+use Rattle.events.specs.declared.Event.the-variants.{Load, Advance, Unload, Pull}
 use Rattle.runs.proofs.EventByEvent.{run-one}
 use borrow.Author.Needs.{needs}
 use Rattle.runs.proofs.step.Statement.{statement}
@@ -48,9 +48,24 @@ returns-3 c =
     rw (ne-eqb _ 76 (e .before .if1 .left), ne-eqb _ 65 (e .if2 .left), eq-eqb _ 85 (c .before .before .if3 .taken))
     (run-one (a .p) (a .t) (Unload (a .job)) (o .result) (c .counted3 .result) (o .ensures) (c .counted3 .ensures))
 
+pull-requires : tie.Need-pull-requires
+pull-requires c κs = search needs
+
+counted-requires-4 : tie.Need-counted-requires-4
+counted-requires-4 c κs = search needs
+
 returns-4 : tie.Need-returns-4
 returns-4 c =
-    rw (ne-eqb _ 76 (c .before .before .if1 .left), ne-eqb _ 65 (c .before .if2 .left), ne-eqb _ 85 (c .if3 .left)) refl
+    let e = c .before .before .before in
+    let a = e .before .before .before .args in
+    let o = c .before .pull in
+    rw (ne-eqb _ 76 (e .before .before .if1 .left), ne-eqb _ 65 (e .before .if2 .left), ne-eqb _ 85 (e .if3 .left), eq-eqb _ 88 (c .before .before .if4 .taken))
+    (run-one (a .p) (a .t) (Pull (a .job)) (o .result) (c .counted4 .result) (o .ensures) (c .counted4 .ensures))
+
+returns-5 : tie.Need-returns-5
+returns-5 c =
+    let e = c .before in
+    rw (ne-eqb _ 76 (e .before .before .if1 .left), ne-eqb _ 65 (e .before .if2 .left), ne-eqb _ 85 (e .if3 .left), ne-eqb _ 88 (c .if4 .left)) refl
 
 pub step-spec : {M : Type 1} → statement M
 step-spec =
@@ -65,4 +80,7 @@ step-spec =
     unload-requires
     counted-requires-3
     returns-3
-    returns-4)
+    pull-requires
+    counted-requires-4
+    returns-4
+    returns-5)

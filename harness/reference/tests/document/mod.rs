@@ -2,7 +2,8 @@
 
 #![allow(dead_code)] // each test file uses some of these
 
-use reference::{Job, Table};
+use reference::text::read_plan;
+use reference::{Job, Plan, Table};
 
 pub const CROSSING: &str = "C 3 2 3/R 1 1/R 2 1/R 3 1/T 1 3/T 2 3/S 1 1 1 1/S 1 2 2 1/S 1 3 3 1/\
     S 2 1 3 1/S 2 2 2 1/S 2 3 1 1/B 1 1/B 2 1/B 3 1/A 1 1 1 1/A 1 2 3 1/A 2 1 1 1/A 2 1 2 1/\
@@ -20,6 +21,14 @@ pub const WITHOUT_ROWS: &str =
 /// The document's way of writing: a space is a tab and `/` a line end.
 pub fn tabbed(text: &str) -> Vec<u8> {
     text.replace(' ', "\t").replace('/', "\n").into_bytes()
+}
+
+/// The plan of a text that is accepted.
+pub fn plan(text: &str) -> Plan {
+    let text = tabbed(text);
+    let reading = read_plan(&text);
+    assert_eq!((reading.number, reading.line), (0, 0));
+    reading.plan
 }
 
 /// A table with this many jobs at stages 1 to 3 of type 1, then of type 2.

@@ -23,6 +23,12 @@ enum-known-event-3 c = search needs
 unload-requires : tie.Need-unload-requires
 unload-requires c κs = search needs
 
+enum-known-event-4 : tie.Need-enum-known-event-4
+enum-known-event-4 c = search needs
+
+pull-requires : tie.Need-pull-requires
+pull-requires c κs = search needs
+
 returns : tie.Need-returns
 returns c = let a = c .before .before .before .before .args in c .load .ensures ∙ ap (outcome (a .p) (a .self)) (sym (c .before .before .event .given .1))
 
@@ -31,6 +37,9 @@ returns-2 c = let a = c .before .before .before .before .args in c .advance .ens
 
 returns-3 : tie.Need-returns-3
 returns-3 c = let a = c .before .before .before .before .args in c .unload .ensures ∙ ap (outcome (a .p) (a .self)) (sym (c .before .before .event3 .given .1))
+
+returns-4 : tie.Need-returns-4
+returns-4 c = let a = c .before .before .before .before .args in c .pull .ensures ∙ ap (outcome (a .p) (a .self)) (sym (c .before .before .event4 .given .1))
 
 pub handle-spec : {M : Type 1} → statement M
 handle-spec =
@@ -42,6 +51,9 @@ handle-spec =
     advance-requires
     enum-known-event-3
     unload-requires
+    enum-known-event-4
+    pull-requires
     returns
     returns-2
-    returns-3)
+    returns-3
+    returns-4)

@@ -1,9 +1,8 @@
--- A move of the job that a number names: the refusals up to question 14, and what is answered once the number is active. A
+-- A move or a pull of the job that a number names: the refusals up to question 14, and what is answered once the number is active. A
 -- number names one job of an agreeing list, so the job found is the one that the model splits the list at.
 use Prim.Native.Nat.{ℕ, _+_}
 use mathlib.Core.Bool.{Bool, true, false, cond, false≢true}
 use mathlib.Core.List.{List, [], _∷_, _++_}
-use mathlib.Core.Logic.{_≢_}
 use mathlib.Core.Path.{_≡_, refl, sym, ap, subst, subst⁻¹, _∙_}
 use borrow.Author.Tests.{lt-ltb}
 use Rattle.model.specs.Limits.{maxNumber}
@@ -21,56 +20,76 @@ use Rattle.events.specs.JobList.{jobsOf, Agrees}
 use Rattle.events.specs.Events.{isAdmitted, jobsAfter, nameQuestions, keptQuestions, ownQuestions, keptAnswer, agreement, answer, listOutcome}
 use Rattle.events.specs.declared.JobList.{JobList}
 use Rattle.events.specs.declared.Event.{Event}
-use Rattle.events.specs.declared.Event.the-variants.{Advance, Unload}
+use Rattle.events.specs.declared.Event.the-variants.{Advance, Unload, Pull}
 use Rattle.events.specs.declared.Answer.{Answer}
 use Rattle.events.specs.declared.Answer.the-variants.{Admitted, BadNumber, WrongActivity, WrongStage}
-use Rattle.events.proofs.Answers.{staged-job, names, unload-admitted}
-use Rattle.parts.specs.Parts.{sumsOf, ceilingsOf, keptAfter, positionOf, stageMet, moveAnswer}
+use Rattle.events.proofs.Answers.{staged-job, names, unload-admitted, pull-admitted}
+use Rattle.parts.specs.Parts.{sumsOf, ceilingsOf, keptAfter, positionOf, stageMet, activeAnswer}
+use Rattle.parts.specs.declared.StageAsked.{StageAsked}
+use Rattle.parts.specs.declared.StageAsked.the-variants.{Next, Last, Any}
 use Rattle.parts.proofs.QuestionParts.{agreement-holds, agreement-met, met-agreement, first-met, Refusing, entry-refused, entry-met}
 use Rattle.parts.proofs.QuestionParts.{name-holds, name-met, by-position}
 use Rattle.parts.proofs.SumsAfter.{moved-exchanged, kept-exchanged}
 
--- questions 11 to 14 of a move are met
+-- questions 11 to 14 of a move or a pull are met
 pub record Stands (p : Plan) (t : JobList) (n : ℕ) : Type 0 where
   pub sound : Sound p
   pub agrees : Agrees p t
   pub met : isAdmitted (answerOf Admitted (nameQuestions (jobsOf t) n)) ≡ true
 
--- an unload or an advance of the number
-abbrev pub moveEvent : Bool → ℕ → Event
-moveEvent true n = Unload n
-moveEvent false n = Advance n
+-- the event of the number that asks this of its stage
+abbrev pub eventAsking : StageAsked → ℕ → Event
+eventAsking Next n = Advance n
+eventAsking Last n = Unload n
+eventAsking Any n = Pull n
 
 -- the answer to questions 11 to 14 and 17, as the code forms it
 module _ (p : Plan) (t : JobList) (n : ℕ) where
-  abbrev metBy : Bool → Bool
-  metBy b = stageMet p b (jobOf n (jobsOf t))
+  abbrev metBy : StageAsked → Bool
+  metBy w = stageMet p w (jobOf n (jobsOf t))
 
-  abbrev ownBy : Bool → List (Question Answer)
-  ownBy b = nameQuestions (jobsOf t) n ++ ask (metBy b) WrongStage ∷ []
+  abbrev stageBy : StageAsked → List (Question Answer)
+  stageBy Next = ask (metBy Next) WrongStage ∷ []
+  stageBy Last = ask (metBy Last) WrongStage ∷ []
+  stageBy Any = []
 
-  abbrev restBy : Bool → List (Question Answer)
-  restBy b = keptQuestions p (jobsAfter p (jobsOf t) (moveEvent b n))
+  abbrev ownBy : StageAsked → List (Question Answer)
+  ownBy w = nameQuestions (jobsOf t) n ++ stageBy w
 
-  whole : (b : Bool) → ownQuestions p (jobsOf t) (moveEvent b n) ≡ ownBy b ++ restBy b
-  whole true = refl
-  whole false = refl
+  abbrev restBy : StageAsked → List (Question Answer)
+  restBy w = keptQuestions p (jobsAfter p (jobsOf t) (eventAsking w n))
 
-module _ (p : Plan) (t : JobList) (n : ℕ) (unloads : Bool) where
+  whole : (w : StageAsked) → ownQuestions p (jobsOf t) (eventAsking w n) ≡ ownBy w ++ restBy w
+  whole Next = refl
+  whole Last = refl
+  whole Any = refl
+
+  refuses : (w : StageAsked) → Refusing (ownBy w)
+  refuses Next = (refl, (refl, (refl, tt)))
+  refuses Last = (refl, (refl, (refl, tt)))
+  refuses Any = (refl, (refl, tt))
+
+  -- where the stage is not asked it is met
+  abbrev furtherBy : StageAsked → Bool → Answer
+  furtherBy w b = answerOf Admitted (ask (inRange n maxNumber) BadNumber ∷ ask b WrongActivity ∷ ask (metBy w) WrongStage ∷ [])
+
+  own-further : (w : StageAsked) → furtherBy w (isActive n (jobsOf t)) ≡ answerOf Admitted (ownBy w)
+  own-further Next = refl
+  own-further Last = refl
+  own-further Any = refl
+
+module _ (p : Plan) (t : JobList) (n : ℕ) (wanted : StageAsked) where
   abbrev met : Bool
-  met = metBy p t n unloads
+  met = metBy p t n wanted
 
   abbrev own : List (Question Answer)
-  own = ownBy p t n unloads
+  own = ownBy p t n wanted
 
   abbrev rest : List (Question Answer)
-  rest = restBy p t n unloads
-
-  refuses : Refusing own
-  refuses = (refl, (refl, (refl, tt)))
+  rest = restBy p t n wanted
 
   own-met : isAdmitted (answerOf Admitted own) ≡ true → (isAdmitted (answerOf Admitted (nameQuestions (jobsOf t) n)) ≡ true) × (met ≡ true)
-  own-met h = go (inRange n maxNumber) (isActive n (jobsOf t)) met h
+  own-met h = go (inRange n maxNumber) (isActive n (jobsOf t)) met (ap isAdmitted (own-further p t n wanted) ∙ h)
     where
       go : (a b m : Bool) → isAdmitted (cond a (cond b (cond m Admitted WrongStage) WrongActivity) BadNumber) ≡ true
           → (isAdmitted (cond a (cond b Admitted WrongActivity) BadNumber) ≡ true) × (m ≡ true)
@@ -79,20 +98,20 @@ module _ (p : Plan) (t : JobList) (n : ℕ) (unloads : Bool) where
       go true false m e = absurd (false≢true e)
       go false b m e = absurd (false≢true e)
 
-  module _ (first a : Answer) (opens : first ≡ agreement p t) (says : a ≡ moveAnswer first (t .count) (positionOf n (jobsOf t)) n met) where
-    further : Bool → Answer
-    further b = answerOf Admitted (ask (inRange n maxNumber) BadNumber ∷ ask b WrongActivity ∷ ask met WrongStage ∷ [])
-
+  module _ (first a : Answer) (opens : first ≡ agreement p t) (says : a ≡ activeAnswer first (t .count) (positionOf n (jobsOf t)) n met) where
     asked : a ≡ cond (isAdmitted first) (answerOf Admitted own) first
-    unfolding moveAnswer further
-    asked = says ∙ by-position p t n first opens further
+    unfolding activeAnswer
+    asked =
+        says
+        ∙ by-position p t n first opens (furtherBy p t n wanted)
+        ∙ ap (λ (further : Answer). cond (isAdmitted first) further first) (own-further p t n wanted)
 
-    pub move-refused : isAdmitted a ≡ false → record { answer = a; list = t } ≡ listOutcome p t (moveEvent unloads n)
-    move-refused h = entry-refused p t (moveEvent unloads n) own rest (whole p t n unloads) refuses first a opens asked h
+    pub active-refused : isAdmitted a ≡ false → record { answer = a; list = t } ≡ listOutcome p t (eventAsking wanted n)
+    active-refused h = entry-refused p t (eventAsking wanted n) own rest (whole p t n wanted) (refuses p t n wanted) first a opens asked h
 
-    pub move-stands : isAdmitted a ≡ true → Stands p t n × (met ≡ true)
-    move-stands h =
-        let both = entry-met p t (moveEvent unloads n) own rest (whole p t n unloads) refuses first a opens asked h in
+    pub active-stands : isAdmitted a ≡ true → Stands p t n × (met ≡ true)
+    active-stands h =
+        let both = entry-met p t (eventAsking wanted n) own rest (whole p t n wanted) (refuses p t n wanted) first a opens asked h in
         let plan = agreement-holds p t (both .0) in
         let named = own-met (both .1) in
         (record { sound = plan .0; agrees = plan .1; met = named .0 }, named .1)
@@ -141,3 +160,6 @@ module _ {p : Plan} {t : JobList} {n : ℕ} (s : Stands p t n) where
 
   pub unload-goes : lengthOf p (job .kind) ≡ job .stage → answer p t (Unload n) ≡ Admitted
   unload-goes h = unload-admitted p t n (s .sound) (s .agrees) here (subst (IsLast p) (found .job) (sym h))
+
+  pub pull-goes : answer p t (Pull n) ≡ Admitted
+  pull-goes = pull-admitted p t n (s .sound) (s .agrees) here

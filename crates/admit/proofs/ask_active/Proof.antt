@@ -1,12 +1,9 @@
 -- The answer is that of the parts: the agreement, where the search for the number ended, and the stage of the job found.
-use mathlib.Core.Bool.{cond}
 use mathlib.Core.Path.{_≡_, ap, _∙_}
-use lib.Dec.{eqb, ltb}
-use Rattle.model.specs.Numbers.{at}
-use Rattle.parts.specs.Parts.{stageMet, moveAnswer}
+use Rattle.parts.specs.Parts.{stageMeets, stageMet, activeAnswer}
 use Rattle.parts.specs.declared.Found.{Found}
-use Rattle.admit.proofs.ask_move.Statement.{statement}
-use Rattle.admit.proofs.ask_move.Tie as tie
+use Rattle.admit.proofs.ask_active.Statement.{statement}
+use Rattle.admit.proofs.ask_active.Tie as tie
 
 agree-requires : tie.Need-agree-requires
 agree-requires c κs = tt
@@ -20,8 +17,8 @@ length-of-requires c κs = tt
 stage-met-requires : tie.Need-stage-met-requires
 stage-met-requires c κs = tt
 
-move-answer-requires : tie.Need-move-answer-requires
-move-answer-requires c κs = tt
+active-answer-requires : tie.Need-active-answer-requires
+active-answer-requires c κs = tt
 
 module _ (c : tie.After-stage-met) where
   abbrev searched : tie.After-look-up
@@ -31,11 +28,11 @@ module _ (c : tie.After-stage-met) where
   start = searched .before .before
 
   -- question 17 of the job found
-  met : c .stage-met .result ≡ stageMet (start .args .p) (start .args .unloads) (searched .look-up .result .job)
+  met : c .stage-met .result ≡ stageMet (start .args .p) (start .args .wanted) (searched .look-up .result .job)
   met =
       let j = searched .look-up .result .job in
       c .stage-met .ensures
-      ∙ ap (λ l. cond (start .args .unloads) (eqb (j .stage) l) (ltb (j .stage) l)) (c .before .length-of .ensures)
+      ∙ ap (stageMeets (start .args .wanted) (j .stage)) (c .before .length-of .ensures)
 
 returns : tie.Need-returns
 returns c =
@@ -43,20 +40,20 @@ returns c =
     let a = start m .args in
     let agrees = searched m .before .agree .ensures in
     let found = searched m .look-up .ensures in
-    let met′ = met m ∙ ap (λ (f : Found). stageMet (a .p) (a .unloads) (f .job)) found in
+    let met′ = met m ∙ ap (λ (f : Found). stageMet (a .p) (a .wanted) (f .job)) found in
     record {
-      answer = c .move-answer .ensures ∙ (λ i. moveAnswer (agrees i .answer) (a .t .count) (found i .at) (a .job) (met′ i));
+      answer = c .active-answer .ensures ∙ (λ i. activeAnswer (agrees i .answer) (a .t .count) (found i .at) (a .job) (met′ i));
       agreement = agrees;
       found = found;
     }
 
-pub ask-move-spec : {M : Type 1} → statement M
-ask-move-spec =
+pub ask-active-spec : {M : Type 1} → statement M
+ask-active-spec =
     tie.close
     (tie.spec
     agree-requires
     look-up-requires
     length-of-requires
     stage-met-requires
-    move-answer-requires
+    active-answer-requires
     returns)
