@@ -9,7 +9,7 @@ use mathlib.Core.Path.{_≡_, refl, sym, ap, subst, subst⁻¹, _∙_}
 use lib.ListN.{length, length-append, length-take}
 use Rattle.model.specs.Limits.{maxNumber, maxJobs}
 use Rattle.model.specs.Numbers.{InRange, Each, Distinct}
-use Rattle.model.specs.Questions.{FirstFailure}
+use Rattle.model.specs.Questions.{Question, Condition, FirstFailure}
 use Rattle.model.specs.Plan.{lengthOf}
 use Rattle.model.specs.Jobs.{KeepsCapacities, KeepsRows, Exceeded, Broken, exceeded, broken, Active, jobOf, loadedJob, advancedJob}
 use Rattle.model.specs.Jobs.{HasNext, IsLast, advancedAt, removedAt, advanced, removed, Numbered, AtStage, Agreeing, numbers}
@@ -24,8 +24,8 @@ use Rattle.model.proofs.Jobs.{decides-active, decides-capacities, decides-rows,
 use Rattle.model.proofs.Progress.{removed-keeps-capacities, removed-keeps-rows}
 use Rattle.model.proofs.Soundness.{decides-sound}
 use Rattle.events.specs.JobList.{jobsOf, listOf, Agrees}
-use Rattle.events.specs.Events.{LeadsTo, Allowed, WellNamed, Afterwards, jobsAfter, keptConditions, ownConditions, firstConditions, eventConditions}
-use Rattle.events.specs.Events.{keptQuestions, ownQuestions, firstQuestions, eventQuestions}
+use Rattle.events.specs.Events.{LeadsTo, Allowed, WellNamed, Afterwards, jobsAfter, keptConditions, nameConditions, ownConditions, firstConditions, eventConditions}
+use Rattle.events.specs.Events.{keptQuestions, nameQuestions, ownQuestions, firstQuestions, eventQuestions}
 use Rattle.events.specs.Events.{agreement, answer, isAdmitted, listAfter, Judged, answerNumbers, Says}
 use Rattle.events.specs.declared.JobList.{JobList}
 use Rattle.events.specs.declared.Event.{Event}
@@ -147,6 +147,13 @@ module _ (p : Plan) (sound : Sound p) (js : List Job) (agreeing : Agreeing p js)
         asked (decides-after (KeepsRows p) (decides-rows p l staged)) row refl λ _.
         done
 
+  -- 13 and 14, and what is asked after them of an active number
+  name-answers : (n : ℕ) {qs : List (Question Answer)} {cs : List (Condition Answer)} → (Active n js → Answers isAdmitted qs cs)
+      → Answers isAdmitted (nameQuestions js n ++ qs) (nameConditions js n ++ cs)
+  name-answers n rest =
+      asked (decides-range n maxNumber) (λ _. refl) refl λ _.
+      asked (decides-active n js) (λ _. refl) refl rest
+
   own-answers : (e : Event) → Answers isAdmitted (ownQuestions p js e) (ownConditions p js e)
   own-answers (Load n t) =
       asked (decides-range n maxNumber) (λ _. refl) refl λ _.
@@ -155,19 +162,14 @@ module _ (p : Plan) (sound : Sound p) (js : List Job) (agreeing : Agreeing p js)
       asked (decides-lt (length js) maxJobs) (λ _. refl) refl λ _.
       kept-answers (Load n t) type refl
   own-answers (Advance n) =
-      asked (decides-range n maxNumber) (λ _. refl) refl λ _.
-      asked (decides-active n js) (λ _. refl) refl λ a.
+      name-answers n λ a.
       asked (decides-named n a (HasNext p) (decides-lt (jobOf n js .stage) (lengthOf p (jobOf n js .kind)))) (λ _. refl) refl λ h.
       kept-answers (Advance n) tt (leads-advance n a (h a))
   own-answers (Unload n) =
-      asked (decides-range n maxNumber) (λ _. refl) refl λ _.
-      asked (decides-active n js) (λ _. refl) refl λ a.
+      name-answers n λ a.
       asked (decides-named n a (IsLast p) (decides-eq (jobOf n js .stage) (lengthOf p (jobOf n js .kind)))) (λ _. refl) refl λ h.
       kept-answers (Unload n) tt (leads-unload n a (h a))
-  own-answers (Pull n) =
-      asked (decides-range n maxNumber) (λ _. refl) refl λ _.
-      asked (decides-active n js) (λ _. refl) refl λ a.
-      kept-answers (Pull n) tt (leads-pull n a)
+  own-answers (Pull n) = name-answers n λ a. kept-answers (Pull n) tt (leads-pull n a)
 
   -- where its own questions are met an event leads to the jobs that the model names, which agree with the plan
   pub own-leads : (e : Event) → AllHold (ownConditions p js e) → LeadsTo p js e (jobsAfter p js e)
@@ -356,23 +358,27 @@ below : (a : Answer) (k number : ℕ) {Q R : Type 0} → number < k → ((¬ Q) 
 below a k number low (inl failed) later = rw (failed .1) low
 below a k number low (inr met) later = later met
 
+-- 11 to 14 of an event whose job must be active, and R of the answer where they are met
+module _ (p : Plan) (t : JobList) (n : ℕ) (a : Answer) (k : ℕ) where
+  name-below : {R : Type 0} → 14 < k → FirstFailure (λ _. R) (firstConditions p t ++ nameConditions (jobsOf t) n) a
+      → (Sound p → Agrees p t → Active n (jobsOf t) → R → answerNumbers a .0 < k) → answerNumbers a .0 < k
+  name-below above says later =
+      below a k 11 (omega arith) says λ sound.
+      below a k 12 (omega arith) (sound .1) λ agrees.
+      below a k 13 (omega arith) (agrees .1) λ range.
+      below a k 14 (omega arith) (range .1) λ active.
+      later (sound .0) (agrees .0) (active .0) (active .1)
+
 -- an unload meets neither 18 nor 19
 pub unload-below-18 : (p : Plan) (t : JobList) (n : ℕ) → answerNumbers (answer p t (Unload n)) .0 < 18
 unload-below-18 p t n =
     let a = answer p t (Unload n) in
-    below a 18 11 (omega arith) (answer-first-failure p t (Unload n)) λ sound.
-    below a 18 12 (omega arith) (sound .1) λ agrees.
-    below a 18 13 (omega arith) (agrees .1) λ range.
-    below a 18 14 (omega arith) (range .1) λ active.
-    below a 18 17 (omega arith) (active .1) λ last.
-    rw (unload-admitted p t n (sound .0) (agrees .0) (active .0) (last .0 (active .0))) (omega arith)
+    name-below p t n a 18 (omega arith) (answer-first-failure p t (Unload n)) λ sound agrees active rest.
+    below a 18 17 (omega arith) rest λ last.
+    rw (unload-admitted p t n sound agrees active (last .0 active)) (omega arith)
 
 -- nor does a pull, which is asked nothing after 14 that could fail
 pub pull-below-15 : (p : Plan) (t : JobList) (n : ℕ) → answerNumbers (answer p t (Pull n)) .0 < 15
 pull-below-15 p t n =
-    let a = answer p t (Pull n) in
-    below a 15 11 (omega arith) (answer-first-failure p t (Pull n)) λ sound.
-    below a 15 12 (omega arith) (sound .1) λ agrees.
-    below a 15 13 (omega arith) (agrees .1) λ range.
-    below a 15 14 (omega arith) (range .1) λ active.
-    rw (pull-admitted p t n (sound .0) (agrees .0) (active .0)) (omega arith)
+    name-below p t n (answer p t (Pull n)) 15 (omega arith) (answer-first-failure p t (Pull n)) λ sound agrees active rest.
+    rw (pull-admitted p t n sound agrees active) (omega arith)

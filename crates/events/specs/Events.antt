@@ -91,6 +91,10 @@ keptConditions p js e =
     }
     ∷ []
 
+-- 13 and 14 of an event whose job must be active
+abbrev pub nameConditions : List Job → ℕ → List (Condition Answer)
+nameConditions js n = asks (InRange n maxNumber) (Says 13 0) ∷ asks (Active n js) (Says 14 0) ∷ []
+
 abbrev pub ownConditions : Plan → List Job → Event → List (Condition Answer)
 ownConditions p js (Load n t) =
     asks (InRange n maxNumber) (Says 13 0)
@@ -99,19 +103,10 @@ ownConditions p js (Load n t) =
     ∷ asks (length js < maxJobs) (Says 16 0)
     ∷ keptConditions p js (Load n t)
 ownConditions p js (Advance n) =
-    asks (InRange n maxNumber) (Says 13 0)
-    ∷ asks (Active n js) (Says 14 0)
-    ∷ asks ((a : Active n js) → HasNext p (a .here .item)) (Says 17 0)
-    ∷ keptConditions p js (Advance n)
+    nameConditions js n ++ asks ((a : Active n js) → HasNext p (a .here .item)) (Says 17 0) ∷ keptConditions p js (Advance n)
 ownConditions p js (Unload n) =
-    asks (InRange n maxNumber) (Says 13 0)
-    ∷ asks (Active n js) (Says 14 0)
-    ∷ asks ((a : Active n js) → IsLast p (a .here .item)) (Says 17 0)
-    ∷ keptConditions p js (Unload n)
-ownConditions p js (Pull n) =
-    asks (InRange n maxNumber) (Says 13 0)
-    ∷ asks (Active n js) (Says 14 0)
-    ∷ keptConditions p js (Pull n)
+    nameConditions js n ++ asks ((a : Active n js) → IsLast p (a .here .item)) (Says 17 0) ∷ keptConditions p js (Unload n)
+ownConditions p js (Pull n) = nameConditions js n ++ keptConditions p js (Pull n)
 
 -- asked before all else
 abbrev pub firstConditions : Plan → JobList → List (Condition Answer)
@@ -137,7 +132,7 @@ keptQuestions p next = limitQuestions (exceeded p next) (broken p next)
 unfoldable pub keptAnswer : ℕ → ℕ → Answer
 keptAnswer resource row = answerOf Admitted (limitQuestions resource row)
 
--- 13 and 14 of an event whose job must be active, and 13 to 16 of a load into a plan with so many types
+-- 13 and 14 as above, and 13 to 16 of a load into a plan with so many types
 abbrev pub nameQuestions : List Job → ℕ → List (Question Answer)
 nameQuestions js n = ask (inRange n maxNumber) BadNumber ∷ ask (isActive n js) WrongActivity ∷ []
 

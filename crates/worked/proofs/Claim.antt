@@ -8,6 +8,7 @@ use Rattle.model.specs.Upstream.{rankedUpTo, upstreamOf, oneUnit, faultyStage, 
 use Rattle.events.specs.JobList.{listOf, agrees}
 use Rattle.events.specs.Events.{answer, listAfter}
 use Rattle.events.specs.Drain.{drainFrom, listDrain}
+use Rattle.emptying.specs.Ledger.{entered}
 use Rattle.plan_text.specs.Records.{recordIn, inRanges}
 use Rattle.plan_text.specs.Written.{emptyDraft, indexIn, written, heldIn}
 use Rattle.plan_text.specs.Reading.{isComplete, reading}
@@ -22,6 +23,6 @@ use Rattle.worked.specs.Runs.{Row, result, rows}
 pub every-row-holds : map (λ (r : Row). result (r .asked)) rows ≡ map (λ (r : Row). r .expected) rows
 unfolding allStages stageOf demandOf weightOf overStages exceeded broken isStage fits agreeing soundCounts soundCapacities soundRanks soundLengths
     soundBounds soundStage sound rankedUpTo upstreamOf oneUnit faultyStage faultyType upstreamRow faultyRow faultyBound check listOf agrees
-    answer listAfter drainFrom listDrain emptyPlan recordIn inRanges emptyDraft indexIn written heldIn isComplete reading decimal planLength eventIn output capacityText largeCapacityText stagesText
+    answer listAfter entered drainFrom listDrain emptyPlan recordIn inRanges emptyDraft indexIn written heldIn isComplete reading decimal planLength eventIn output capacityText largeCapacityText stagesText
     moreStagesText crossingText wholeInput wholeOutput pullInput pullOutput planNumbers crossingWith crossingPlan equation40 withoutRows oneStation jobsPerStage result rows
 every-row-holds = refl

@@ -1,6 +1,6 @@
 -- Document 01's starred runs, as rows of one table: what is asked, and the numbers that the paper gives for it. With them the
 -- crossing plan's text, the whole run, as events and from bytes to bytes, a number used again after its unload, both sides of
--- the largest number, and the pulls of change request S-1.
+-- the largest number, and the pulls of change request S-1, with what the ledger holds before and after one.
 use Prim.Native.Nat.{ℕ, zero, suc}
 use mathlib.Core.List.{List, [], _∷_, _++_, map}
 use Rattle.model.specs.Upstream.{check, checkNumbers}
@@ -9,10 +9,12 @@ use Rattle.model.specs.declared.Plan.{Plan}
 use Rattle.model.specs.declared.Job.{Job}
 use Rattle.events.specs.JobList.{listOf, jobsOf, emptyList}
 use Rattle.events.specs.Events.{answer, listAfter, answerNumbers}
-use Rattle.events.specs.Drain.{listDrain, endNumber}
+use Rattle.events.specs.Drain.{listDrain, endNumber, stagesBefore}
 use Rattle.events.specs.declared.JobList.{JobList}
 use Rattle.events.specs.declared.Event.{Event}
 use Rattle.events.specs.declared.Event.the-variants.{Load, Advance, Unload, Pull}
+use Rattle.emptying.specs.Run.{run, answers, admittedCount}
+use Rattle.emptying.specs.Emptying.{start}
 use Rattle.plan_text.specs.TextQuestions.{textNumber}
 use Rattle.plan_text.specs.Reading.{reading}
 use Rattle.moves_text.specs.Output.{output}
@@ -28,11 +30,13 @@ pub data Run : Type 0 where
   drained : Plan → List Job → ℕ → Run
   answered : Plan → List Job → Event → Run
   followed : Plan → List Event → Run
+  booked : Plan → List Event → Run
   printed : List ℕ → Run
 
-sums : Plan → List Job → ℕ → List ℕ
-sums p js zero = []
-sums p js (suc w) = sums p js w ++ rowSum p (suc w) js ∷ []
+-- the list f 1, .., f n
+upTo : ℕ → (ℕ → ℕ) → List ℕ
+upTo zero f = []
+upTo (suc n) f = upTo n f ++ f (suc n) ∷ []
 
 stagesOf : List Job → List ℕ
 stagesOf js = map (λ (j : Job). j .stage) js
@@ -47,14 +51,15 @@ lines p t (e ∷ es) =
 
 -- the numbers that the definitions give: of a text its answer and line, or all numbers of its plan; of a check its answer and
 -- two places; of jobs against the rows each row's sum and the row broken; of a drain its answer and moves, of an event its
--- answer and place, both with the stages at which the jobs then stand; of events from the empty table the lines above; of an input
--- of `cellmoves` the bytes that it prints
+-- answer and place, both with the stages at which the jobs then stand; of events from the empty table the lines above, or the ledger: the
+-- units taken and given back of each resource, the stages still before its jobs, and the events admitted; of an input of `cellmoves`
+-- the bytes that it prints
 unfoldable pub result : Run → List ℕ
-unfolding sums stagesOf lines
+unfolding upTo stagesOf lines
 result (read text) = let r = reading text in textNumber (r .answer) ∷ r .line ∷ []
 result (planned text) = planNumbers (reading text .plan)
 result (checked p) = let c = checkNumbers (check p) in c .0 ∷ c .1 ∷ c .2 ∷ []
-result (weighed p js) = sums p js (p .rows) ++ broken p js ∷ []
+result (weighed p js) = upTo (p .rows) (λ w. rowSum p w js) ++ broken p js ∷ []
 result (drained p js budget) =
     let d = listDrain p (listOf js) budget in
     endNumber (d .end) ∷ d .moves ∷ stagesOf (jobsOf (d .list))
@@ -62,6 +67,13 @@ result (answered p js e) =
     let a = answerNumbers (answer p (listOf js) e) in
     a .0 ∷ a .1 ∷ stagesOf (jobsOf (listAfter p (listOf js) e))
 result (followed p es) = lines p emptyList es
+result (booked p es) =
+    let l = run p start es .ledger in
+    upTo (p .resources) (l .taken)
+    ++ upTo (p .resources) (l .given)
+    ++ stagesBefore p (l .jobs)
+    ∷ admittedCount (answers p emptyList es)
+    ∷ []
 result (printed input) = output input
 
 pub record Row : Type 0 where
@@ -112,4 +124,6 @@ rows =
     ∷ row (followed crossingPlan pullRun)
     (0 ∷ 0 ∷ 1 ∷ 0 ∷ 0 ∷ 1 ∷ 0 ∷ 0 ∷ 0 ∷ 0 ∷ 0 ∷ 1 ∷ 0 ∷ 0 ∷ 1 ∷ 0 ∷ 0 ∷ 1 ∷ 18 ∷ 1 ∷ 1 ∷ 0 ∷ 0 ∷ 0 ∷ 0 ∷ 0 ∷ 1 ∷ [])
     ∷ row (answered withoutRows (jobsPerStage 1 1 0 1 1 0) (Pull 11)) (0 ∷ 0 ∷ 1 ∷ 1 ∷ 2 ∷ [])
+    ∷ row (booked crossingPlan (Load 8 2 ∷ Advance 8 ∷ [])) (0 ∷ 1 ∷ 1 ∷ 0 ∷ 0 ∷ 1 ∷ 2 ∷ 2 ∷ [])
+    ∷ row (booked crossingPlan (Load 8 2 ∷ Advance 8 ∷ Pull 8 ∷ [])) (0 ∷ 1 ∷ 1 ∷ 0 ∷ 1 ∷ 1 ∷ 0 ∷ 3 ∷ [])
     ∷ []
