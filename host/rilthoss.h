@@ -47,8 +47,9 @@ uint64_t rilthoss_read_plan(uint8_t *cell, size_t cell_length, const uint8_t *te
  * place its stage; for 24 and 25 the row. */
 uint64_t rilthoss_check(const uint8_t *cell, size_t cell_length);
 
-/* The events. Number: 0 admitted, or 11 to 19; place: for 18 the lowest resource exceeded, for 19 the lowest row broken. An admitted event
- * changes the jobs, a refused one no byte. A pull takes out a job that is scrapped, at whichever stage it is: 0, or 11 to 14. */
+/* The events. Number: 0 admitted, or 11 to 19; place: for 18 the lowest resource exceeded, for 19 the row exceeded by the most and of
+ * equals the lowest. An admitted event changes the jobs, a refused one no byte. A pull takes out a job that is scrapped, at whichever stage
+ * it is: 0, or 11 to 14. */
 uint64_t rilthoss_load(uint8_t *cell, size_t cell_length, uint32_t job, uint32_t type);
 uint64_t rilthoss_advance(uint8_t *cell, size_t cell_length, uint32_t job);
 uint64_t rilthoss_unload(uint8_t *cell, size_t cell_length, uint32_t job);

@@ -1,4 +1,4 @@
-// What is asked of the entrances and written, each number after a tab. Each function hands back the table afterwards.
+// What is asked of the entrances, and of the row test beneath them, and written, each number after a tab. Each function hands back the table afterwards.
 use crate::table::first_stage;
 use crate::table::jobs;
 use crate::table::loaded;
@@ -7,13 +7,17 @@ use admission::Outcome;
 use admission::Table;
 use libc::STDOUT_FILENO;
 use model::Plan;
+use model::Stage;
 use numbers::answer_number;
 use numbers::answer_place;
 use numbers::end_number;
+use parts::Ceilings;
 use plan_numbers::check_first;
 use plan_numbers::check_number;
 use plan_numbers::check_second;
 use soundness::is_sound;
+use sums::sums_of;
+use sums::worst_row;
 use upstream::upstream_check;
 
 fn number(x: u64) {
@@ -84,6 +88,23 @@ fn check(p: Plan, t: Table) -> Table {
     t
 }
 
+// The row test of the table as it stands.
+fn rows(p: Plan, t: Table) -> Table {
+    let none = Stage {
+        demand: [0; 32],
+        weight: [0; 32],
+    };
+    let bound = p.bound;
+    let ceilings = Ceilings {
+        capacity: [0; 32],
+        bound,
+    };
+    let worst = worst_row(sums_of(p, t.list), none, none, ceilings);
+    short(worst.row);
+    short(worst.excess);
+    t
+}
+
 // Its answer; is its table the one that it was asked of?
 fn is_same_after(p: Plan, t: Table, letter: u8, job: u32) -> bool {
     let o = outcome(p, t, letter, job, 1);
@@ -144,6 +165,7 @@ pub(crate) fn asked(
         b'q' => check(p, t),
         b'e' => entrances(p, t),
         b'r' => list(p, t, line, x, y, z, w),
+        b'w' => rows(p, t),
         b'f' => stage(t),
         b':' => text(line, t),
         b'=' | b'+' => next_text(line, t),

@@ -20,7 +20,7 @@ use Rattle.model.proofs.Decide.{Decides, decides-iff, decides-not, decides-lt, 
 use Rattle.model.proofs.Decide.{Answers, AllHold, done, asked, first-failure, accepted, all-hold}
 use Rattle.model.proofs.Lists.{append-each, each-at, each-removed, each-moved}
 use Rattle.model.proofs.Jobs.{distinct-moved, distinct-removed, distinct-added, Found, found}
-use Rattle.model.proofs.Jobs.{decides-active, decides-capacities, decides-rows, lowest-exceeded, lowest-broken}
+use Rattle.model.proofs.Jobs.{decides-active, decides-capacities, decides-rows, lowest-exceeded, worst-broken}
 use Rattle.model.proofs.Progress.{removed-keeps-capacities, removed-keeps-rows}
 use Rattle.model.proofs.Soundness.{decides-sound}
 use Rattle.events.specs.JobList.{jobsOf, listOf, Agrees}
@@ -83,7 +83,7 @@ module _ (p : Plan) (sound : Sound p) (js : List Job) (agreeing : Agreeing p js)
     left-distinct : Distinct (numbers (removed n js))
     left-distinct = rw (names .removal) (distinct-removed (a .here .before) (a .here .after) (a .here .item) whole-distinct)
 
-    left-keeps : KeepsCapacities p (removedAt (a .here)) × KeepsRows p (removedAt (a .here))
+    pub left-keeps : KeepsCapacities p (removedAt (a .here)) × KeepsRows p (removedAt (a .here))
     left-keeps =
         let capacities = subst (KeepsCapacities p) (a .here .whole) (agreeing .capacities) in
         let rows = subst (KeepsRows p) (a .here .whole) (agreeing .rows) in (
@@ -142,7 +142,7 @@ module _ (p : Plan) (sound : Sound p) (js : List Job) (agreeing : Agreeing p js)
         let r = exceeded p l in
         let w = broken p l in
         let over = place-after (λ i. Says 18 i (OverCapacity r)) (KeepsCapacities p) (Exceeded p) r refl (lowest-exceeded p l staged) in
-        let row = place-after (λ i. Says 19 i (RowBroken w)) (KeepsRows p) (Broken p) w refl (lowest-broken p l staged) in
+        let row = place-after (λ i. Says 19 i (RowBroken w)) (KeepsRows p) (Broken p) w refl (λ h. worst-broken p l staged h .0) in
         asked (decides-after (KeepsCapacities p) (decides-capacities p l staged)) over refl λ _.
         asked (decides-after (KeepsRows p) (decides-rows p l staged)) row refl λ _.
         done

@@ -128,7 +128,7 @@ limitQuestions resource row = ask (eqb resource 0) (OverCapacity resource) ∷ a
 abbrev pub keptQuestions : Plan → List Job → List (Question Answer)
 keptQuestions p next = limitQuestions (exceeded p next) (broken p next)
 
--- the answer to the last two questions, from the lowest resource exceeded and the lowest row broken; 0 for none
+-- the answer to the last two questions, from the lowest resource exceeded and the row exceeded by the most; 0 for none
 unfoldable pub keptAnswer : ℕ → ℕ → Answer
 keptAnswer resource row = answerOf Admitted (limitQuestions resource row)
 

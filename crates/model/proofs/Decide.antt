@@ -5,12 +5,12 @@ use Prim.Native.Nat.{ℕ, zero, suc, _≤_, _<_}
 use native.Mathlib.Omega.{arith}
 use mathlib.Core.Bool.{Bool, true, false, not, cond, _&&_, _||_, false≢true}
 use mathlib.Core.List.{List, [], _∷_, _++_}
-use mathlib.Core.Logic.{_⊎_, inl, inr, ⊎-elim}
+use mathlib.Core.Logic.{_⊎_, inl, inr, ⊎-elim, ⊎-map}
 use mathlib.Core.Path.{_≡_, refl, sym, subst, subst⁻¹, _∙_}
 use lib.ListN.{drop}
 use lib.Dec.{leb, ltb, eqb}
 use borrow.Author.Tests.{leb-true, leb-false, eqb-true, eqb-false, eq-eqb, ne-eqb}
-use Rattle.model.specs.Numbers.{InRange, inRange, entry, allTo, someTo, lowest, Lowest, Each, each}
+use Rattle.model.specs.Numbers.{InRange, inRange, entry, allTo, someTo, lowest, Lowest, greatest, Greatest, Each, each}
 use Rattle.model.specs.Questions.{Question, Condition, answerOf, FirstFailure}
 
 pub data Decides (P : Type 0) : Bool → Type 0 where
@@ -77,6 +77,11 @@ decides-eq a b = go (eqb a b) refl
     go true e = holding (eqb-true a b e)
     go false e = failing (eqb-false a b e)
 
+-- a number that is 0 where a condition holds, and else above it
+decides-zero : {P : Type 0} {m : ℕ} → ((m ≡ 0) × P) ⊎ ((0 < m) × (¬ P)) → Decides P (eqb m 0)
+decides-zero {P} {m} (inl h) = decides-iff (λ e. h .1) (λ p. h .0) (decides-eq m 0)
+decides-zero {P} {m} (inr h) = decides-iff (λ e. absurd (omega (arith, h .0, e))) (λ p. absurd (h .1 p)) (decides-eq m 0)
+
 pub decides-range : (i n : ℕ) → Decides (InRange i n) (inRange i n)
 decides-range i n = decides-le 1 i and decides-le i n
 
@@ -133,16 +138,68 @@ module _ (P : ℕ → Type 0) (f : ℕ → Bool) where
 
   module _ (n : ℕ) (d : (i : ℕ) → InRange i n → Decides (P i) (f i)) where
     pub decides-lowest : Decides ((i : ℕ) → InRange i n → P i) (eqb (lowest n f) 0)
-    decides-lowest = decides-iff all none (decides-eq (lowest n f) 0)
-      where
-        all : lowest n f ≡ 0 → (i : ℕ) → InRange i n → P i
-        all e = ⊎-elim (λ s. s .1) (λ (l : Lowest n P (lowest n f)). absurd (omega (arith, l .within, e))) (searched n d)
-
-        none : ((i : ℕ) → InRange i n → P i) → lowest n f ≡ 0
-        none h = ⊎-elim (λ s. s .0) (λ (l : Lowest n P (lowest n f)). absurd (l .fails (h _ (l .within)))) (searched n d)
+    decides-lowest = decides-zero (⊎-map (λ none. none) (λ l. (l .within .0, λ all. l .fails (all _ (l .within)))) (searched n d))
 
     pub lowest-found : (¬ ((i : ℕ) → InRange i n → P i)) → Lowest n P (lowest n f)
     lowest-found h = ⊎-elim (λ s. absurd (h (s .1))) (λ (l : Lowest n P (lowest n f)). l) (searched n d)
+
+-- the search for the lowest of 1 to n at which f is greatest, of which there is one
+module _ (f : ℕ → ℕ) where
+  pub greatest-one : {n : ℕ} (i j : ℕ) → Greatest n f i → Greatest n f j → i ≡ j
+  greatest-one i j a b = omega (arith, not-below i j a b, not-below j i b a)
+    where
+      not-below : {n : ℕ} (i j : ℕ) → Greatest n f i → Greatest n f j → ¬ (i < j)
+      not-below i j a b h = omega (arith, b .below i (a .within .0) h, a .most j (b .within))
+
+  -- what it finds: f is nowhere above the value found; and that is 0 with number 0, or f at the number found, above 0 and above f at each lower one
+  pub record FindsGreatest (n : ℕ) (m : ℕ × ℕ) : Type 0 where
+    pub most : (j : ℕ) → InRange j n → f j ≤ m .1
+    pub found : ((m .0 ≡ 0) × (m .1 ≡ 0)) ⊎ (InRange (m .0) n × (m .1 ≡ f (m .0)) × (0 < m .1) × ((j : ℕ) → 1 ≤ j → j < m .0 → f j < m .1))
+
+  searched-greatest : (n : ℕ) → FindsGreatest n (greatest n f)
+  searched-greatest zero = record { most = λ j h. absurd (omega arith); found = inl (refl, refl) }
+  searched-greatest (suc n) = step (greatest n f) (searched-greatest n) (decides-lt (greatest n f .1) (f (suc n)))
+    where
+      step : (m : ℕ × ℕ) → FindsGreatest n m → {b : Bool} → Decides (m .1 < f (suc n)) b → FindsGreatest (suc n) (cond b (suc n, f (suc n)) m)
+      step m s (holding more) =
+          record {
+            most = extend (λ j. f j ≤ f (suc n)) n (λ j h. omega (arith, s .most j h, more)) (omega arith);
+            found = inr (omega arith, refl, omega arith, λ j low high. omega (arith, s .most j (omega arith), more));
+          }
+      step m s (failing same) =
+          record {
+            most = extend (λ j. f j ≤ m .1) n (s .most) (omega arith);
+            found = ⊎-map (λ none. none) (λ h. (omega (arith, h .0), h .1, h .2, h .3)) (s .found);
+          }
+
+  module _ (n : ℕ) where
+    pub greatest-within : greatest n f .0 ≤ n
+    greatest-within = ⊎-elim (λ none. omega (arith, none .0)) (λ h. h .0 .1) (searched-greatest n .found)
+
+    pub greatest-at-most : (most : ℕ) → ((j : ℕ) → InRange j n → f j ≤ most) → greatest n f .1 ≤ most
+    greatest-at-most most h = ⊎-elim (λ none. omega (arith, none .1)) (λ k. omega (arith, h _ (k .0), k .1)) (searched-greatest n .found)
+
+    pub greatest-found : (¬ ((j : ℕ) → InRange j n → f j ≡ 0))
+        → Greatest n f (greatest n f .0) × (greatest n f .1 ≡ f (greatest n f .0)) × (0 < f (greatest n f .0))
+    greatest-found some =
+        let s = searched-greatest n in
+        ⊎-elim (λ none. absurd (some (λ j h. omega (arith, s .most j h, none .1))))
+        (λ h. (
+          record { within = h .0; most = λ j r. omega (arith, s .most j r, h .1); below = λ j low high. omega (arith, h .3 j low high, h .1) },
+          h .1,
+          omega (arith, h .1, h .2),
+        ))
+        (s .found)
+
+    -- a condition that holds exactly where f is 0
+    pub decides-greatest : (P : ℕ → Type 0) → ((i : ℕ) → InRange i n → (P i → f i ≡ 0) × (f i ≡ 0 → P i))
+        → Decides ((i : ℕ) → InRange i n → P i) (eqb (greatest n f .0) 0)
+    decides-greatest P zero-where =
+        let s = searched-greatest n in
+        decides-zero
+        (⊎-map (λ none. (none .0, λ i h. zero-where i h .1 (omega (arith, s .most i h, none .1))))
+        (λ h. (h .0 .0, λ all. omega (arith, zero-where _ (h .0) .0 (all _ (h .0)), h .1, h .2)))
+        (s .found))
 
 -- over the entries of a list
 module _ {A : Type 0} {P : A → Type 0} {f : A → Bool} (d : (x : A) → Decides (P x) (f x)) where

@@ -1,6 +1,6 @@
 -- Lists of jobs: a number names one job of a list whose numbers differ, so an event's list is the one that the model
--- names; and the tests on a list decide whether it agrees with the plan.
-use Prim.Native.Nat.{ℕ, _≤_}
+-- names; the tests on a list decide whether it agrees with the plan; and the row that is named is the one exceeded by the most.
+use Prim.Native.Nat.{ℕ, _-_, _≤_}
 use native.Mathlib.Omega.{arith}
 use mathlib.Core.Bool.{false}
 use mathlib.Core.List.{List, [], _∷_, _++_}
@@ -9,17 +9,18 @@ use mathlib.Core.Path.{_≡_, refl, sym, ap, subst, _∙_}
 use lib.Dec.{eqb, leb}
 use lib.ListN.{length, length-append}
 use borrow.Author.Tests.{eq-eqb, ne-eqb}
-use Rattle.model.specs.Limits.{maxNumber}
-use Rattle.model.specs.Numbers.{Each, Distinct}
+use Rattle.model.specs.Limits.{maxNumber, maxUnits, maxJobs, maxSum}
+use Rattle.model.specs.Numbers.{InRange, Each, Distinct}
 use Rattle.model.specs.Plan.{capacityOf, boundOf, demandOf, weightOf, lengthOf}
-use Rattle.model.specs.Jobs.{overStages, overJobs, unitsHeld, rowSum, KeepsCapacities, KeepsRows, Exceeded, Broken, exceeded, broken, Active, isActive}
+use Rattle.model.specs.Jobs.{overJobs, unitsHeld, KeepsCapacities, KeepsRows, Exceeded, rowExcess, Broken, exceeded, excessOf, worstRow, broken, Active, isActive}
 use Rattle.model.specs.Jobs.{jobOf, advancedJob, advanced, removed, numbers, Numbered, AtStage, Agreeing, distinct, fits, agreeing}
+use Rattle.model.specs.Soundness.{Sound}
 use Rattle.model.specs.declared.Plan.{Plan}
 use Rattle.model.specs.declared.Job.{Job}
 use Rattle.model.proofs.Decide.{Decides, holding, failing, decides-iff, _and_, decides-then, decides-or, decides-not}
-use Rattle.model.proofs.Decide.{decides-le, decides-eq, decides-range, decides-each, decides-lowest, lowest-found}
+use Rattle.model.proofs.Decide.{decides-le, decides-eq, decides-range, decides-each, decides-lowest, lowest-found, greatest-one, greatest-at-most, greatest-found, decides-greatest}
 use Rattle.model.proofs.Lists.{split-at, split-first, split-later, append-each, each-at, each-removed, each-map, each-both}
-use Rattle.model.proofs.Sums.{over-stages-jobs}
+use Rattle.model.proofs.Sums.{over-stages-jobs, over-jobs-most}
 
 -- numbers that differ
 each-number : (P : ℕ → Type 0) (xs : List Job) → Each P (numbers xs) → Each (λ (j : Job). P (j .number)) xs
@@ -129,32 +130,58 @@ decides-fits p j =
     decides-iff (λ h. (h .0 .0, (h .0 .1, h .1))) (λ h. ((h .0, h .1 .0), h .1 .1))
     (decides-range (j .number) maxNumber and decides-range (j .kind) (p .types) and decides-range (j .stage) (lengthOf p (j .kind)))
 
--- capacities and rows, as one case: the sum over stages is tested by the sum over jobs
+-- capacities and rows: the sum over stages is tested by the sum over jobs
 module _ (p : Plan) (js : List Job) (staged : Each (AtStage p) js) where
-  decides-sum : (amount : ℕ → ℕ → ℕ) (bound : ℕ) → Decides (overStages p amount js ≤ bound) (leb (overJobs amount js) bound)
-  decides-sum amount bound = rw (over-stages-jobs p amount js staged) (decides-le (overJobs amount js) bound)
-
   decides-unit : (r : ℕ) → Decides (unitsHeld p r js ≤ capacityOf p r) (leb (overJobs (demandOf p r) js) (capacityOf p r))
-  decides-unit r = decides-sum (demandOf p r) (capacityOf p r)
-
-  decides-row : (w : ℕ) → Decides (rowSum p w js ≤ boundOf p w) (leb (overJobs (weightOf p w) js) (boundOf p w))
-  decides-row w = decides-sum (weightOf p w) (boundOf p w)
+  decides-unit r = rw (over-stages-jobs p (demandOf p r) js staged) (decides-le (overJobs (demandOf p r) js) (capacityOf p r))
 
   pub decides-capacities : Decides (KeepsCapacities p js) (eqb (exceeded p js) 0)
   unfolding exceeded
   decides-capacities = decides-lowest _ _ (p .resources) (λ r h. decides-unit r)
 
-  pub decides-rows : Decides (KeepsRows p js) (eqb (broken p js) 0)
-  unfolding broken
-  decides-rows = decides-lowest _ _ (p .rows) (λ w h. decides-row w)
-
   pub lowest-exceeded : (¬ KeepsCapacities p js) → Exceeded p js (exceeded p js)
   unfolding exceeded
   lowest-exceeded = lowest-found _ _ (p .resources) (λ r h. decides-unit r)
 
-  pub lowest-broken : (¬ KeepsRows p js) → Broken p js (broken p js)
-  unfolding broken
-  lowest-broken = lowest-found _ _ (p .rows) (λ w h. decides-row w)
+  excess : (w : ℕ) → rowExcess p w js ≡ excessOf p js w
+  excess w = ap (λ (n : ℕ). n - boundOf p w) (over-stages-jobs p (weightOf p w) js staged)
+
+  pub decides-rows : Decides (KeepsRows p js) (eqb (broken p js) 0)
+  unfolding worstRow
+  decides-rows = decides-greatest (excessOf p js) (p .rows) _ (λ w h. (λ k. omega (arith, excess w), λ e. omega (arith, excess w)))
+
+  -- the row that is named is the one worded, and its excess is the one found with it
+  pub worst-broken : (¬ KeepsRows p js) → Broken p js (broken p js) × (worstRow p js .1 ≡ rowExcess p (broken p js) js)
+  unfolding worstRow
+  worst-broken h =
+      let w = broken p js in
+      let found = greatest-found (excessOf p js) (p .rows) (λ none. h (λ v r. omega (arith, none v r, excess v))) in (
+        (
+          omega (arith, found .2, excess w),
+          record {
+            within = found .0 .within;
+            most = λ v r. omega (arith, found .0 .most v r, excess v, excess w);
+            below = λ v low high. omega (arith, found .0 .below v low high, excess v, excess w);
+          },
+        ),
+        found .1 ∙ sym (excess w),
+      )
+
+  -- and no other row is worded so
+  pub broken-one : (w : ℕ) → Broken p js w → w ≡ broken p js
+  broken-one w h =
+      greatest-one _ w (broken p js) (h .1) (worst-broken (λ keeps. omega (arith, keeps w (h .1 .within), h .0)) .0 .1)
+
+-- a job weighs at most 255 in a row, so 64 jobs come to 16,320, and no excess is above that
+module _ (p : Plan) (sound : Sound p) where
+  pub weight-most : (w : ℕ) → InRange w (p .rows) → (j : Job) → AtStage p j → weightOf p w (j .kind) (j .stage) ≤ maxUnits
+  weight-most w row j s = sound .stages (j .kind) (j .stage) s .weights w row
+
+  pub excess-most : (js : List Job) → Each (AtStage p) js → length js ≤ maxJobs → worstRow p js .1 ≤ maxSum
+  unfolding worstRow
+  excess-most js staged few =
+      greatest-at-most (excessOf p js) (p .rows) maxSum
+      (λ w row. omega (arith, over-jobs-most (weightOf p w) js (each-map (AtStage p) _ (weight-most w row) js staged)))
 
 pub decides-agreeing : (p : Plan) (js : List Job) → Decides (Agreeing p js) (agreeing p js)
 unfolding agreeing

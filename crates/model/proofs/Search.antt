@@ -1,18 +1,18 @@
 -- For loops over 1 to n, or over the entries of a list, that return at the first one that decides: `..-more` keeps the
 -- invariant over those passed, and `..-fails`, `..-holds` and `..-at` give the result at the one where the loop returns.
--- `each-flag` is for loops that keep a flag to their end instead.
+-- `each-flag` is for loops that keep a flag to their end instead, and `greatest-more` for those that keep the greatest.
 use Prim.Native.Nat.{ℕ, zero, suc, _+_, _≤_, _<_}
 use native.Mathlib.Numerals.{add-one}
 use native.Mathlib.Omega.{arith}
 use mathlib.Core.Bool.{Bool, true, false, _&&_, and-true, and-false, and-assoc, or-true}
 use mathlib.Core.List.{List}
-use mathlib.Core.Logic.{⊎-elim}
+use mathlib.Core.Logic.{_⊎_, inl, inr, ⊎-elim}
 use mathlib.Core.Path.{_≡_, refl, sym, _∙_}
 use lib.Dec.{leb}
 use lib.ListN.{length, drop, getD, drop-of-length-le}
 use lib.Seq.{drop-cons}
-use borrow.Author.Tests.{le-leb, ne-eqb}
-use Rattle.model.specs.Numbers.{at, allTo, someTo, lowest, each}
+use borrow.Author.Tests.{le-leb, lt-leb, ne-eqb}
+use Rattle.model.specs.Numbers.{at, allTo, someTo, lowest, greatest, each}
 use Rattle.model.proofs.Decide.{decides-le, decided}
 
 module _ (f : ℕ → Bool) where
@@ -50,6 +50,18 @@ module _ (f : ℕ → Bool) where
     where
       passed : lowest n f ≡ i + 1 → lowest (suc n) f ≡ i + 1
       passed e = rw (ne-eqb (lowest n f) 0 (λ z. omega (arith, e))) e
+
+-- a search for the greatest goes to the end: by one of two branches the next number takes the place of the one found, or does not
+module _ (f : ℕ → ℕ) (i : ℕ) {found : ℕ × ℕ} (so-far : greatest i f ≡ found) {P Q : Type 0} {number value : ℕ} where
+  pub greatest-more : (P → (found .1 < f (suc i)) × (number ≡ i + 1) × (value ≡ f (suc i)))
+      → (Q → (f (suc i) ≤ found .1) × (number ≡ found .0) × (value ≡ found .1))
+      → P ⊎ Q → greatest (i + 1) f ≡ (number, value)
+  greatest-more takes keeps (inl h) =
+      let t = takes h in
+      rw (t .1, t .2, add-one, so-far, le-leb (suc (found .1)) (f (suc i)) (t .0)) refl
+  greatest-more takes keeps (inr h) =
+      let k = keeps h in
+      rw (add-one, so-far, lt-leb (suc (found .1)) (f (suc i)) (omega (arith, k .0)), k .1, k .2) refl
 
 -- what the entries from i on say
 module _ {A : Type 0} (f : A → Bool) (xs : List A) where

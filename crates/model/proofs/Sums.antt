@@ -7,7 +7,9 @@ use mathlib.Core.List.{List, [], _∷_, _++_}
 use mathlib.Core.Logic.{_≢_}
 use mathlib.Core.Path.{_≡_, refl, sym, _∙_}
 use lib.Dec.{eqb}
+use lib.ListN.{length}
 use borrow.Author.Tests.{eq-eqb, ne-eqb}
+use Rattle.model.specs.Limits.{maxUnits}
 use Rattle.model.specs.Numbers.{InRange, sumTo, Each}
 use Rattle.model.specs.Plan.{lengthOf}
 use Rattle.model.specs.Jobs.{isAt, jobsAt, overStages, overJobs, AtStage}
@@ -132,6 +134,10 @@ module _ (f : ℕ → ℕ → ℕ) where
   pub over-jobs-zero : (js : List Job) → Each (λ (j : Job). f (j .kind) (j .stage) ≡ 0) js → overJobs f js ≡ 0
   over-jobs-zero [] h = refl
   over-jobs-zero (j ∷ js) h = omega (arith, h .0, over-jobs-zero js (h .1))
+
+  pub over-jobs-most : (js : List Job) → Each (λ (j : Job). f (j .kind) (j .stage) ≤ maxUnits) js → overJobs f js ≤ length js * maxUnits
+  over-jobs-most [] h = omega arith
+  over-jobs-most (j ∷ js) h = omega (arith, h .0, over-jobs-most js (h .1))
 
   pub over-jobs-mono : (g : ℕ → ℕ → ℕ) (js : List Job) → Each (λ (j : Job). f (j .kind) (j .stage) ≤ g (j .kind) (j .stage)) js → overJobs f js ≤ overJobs g js
   over-jobs-mono g [] h = omega arith

@@ -1,12 +1,12 @@
 -- Jobs in the order they were loaded: what they hold, how a list of them changes, and when it agrees with a plan.
 -- Over resources and rows jobs meet only in the sums below (Condition 4 of source document 003).
-use Prim.Native.Nat.{ℕ, _+_, _*_, _≤_, _<_}
+use Prim.Native.Nat.{ℕ, _+_, _-_, _*_, _≤_, _<_}
 use mathlib.Core.Bool.{Bool, true, false, cond, not, _&&_, _||_}
 use mathlib.Core.List.{List, [], _∷_, _++_, map}
 use mathlib.Core.Path.{_≡_}
 use lib.Dec.{leb, ltb, eqb}
 use Rattle.model.specs.Limits.{maxNumber}
-use Rattle.model.specs.Numbers.{InRange, inRange, at, sumTo, lowest, Lowest, Each, each, Split, Distinct}
+use Rattle.model.specs.Numbers.{InRange, inRange, at, sumTo, lowest, Lowest, greatest, Greatest, Each, each, Split, Distinct}
 use Rattle.model.specs.Plan.{lengthOf, IsStage, demandOf, weightOf, capacityOf, boundOf, stageAfter}
 use Rattle.model.specs.declared.Plan.{Plan}
 use Rattle.model.specs.declared.Job.{Job}
@@ -41,24 +41,36 @@ KeepsCapacities p js = (r : ℕ) → InRange r (p .resources) → unitsHeld p r 
 abbrev pub KeepsRows : Plan → List Job → Type 0
 KeepsRows p js = (w : ℕ) → InRange w (p .rows) → rowSum p w js ≤ boundOf p w
 
--- r is the lowest resource exceeded, and w is the lowest row broken
+-- r is the lowest resource exceeded
 abbrev pub Exceeded : Plan → List Job → ℕ → Type 0
 Exceeded p js r = Lowest (p .resources) (λ (i : ℕ). unitsHeld p i js ≤ capacityOf p i) r
 
+-- by how much row w is exceeded, its sum less its bound; 0 where it is kept
+abbrev pub rowExcess : Plan → ℕ → List Job → ℕ
+rowExcess p w js = rowSum p w js - boundOf p w
+
+-- w is the row exceeded by the most and, of equals, the lowest (change request S-2)
 abbrev pub Broken : Plan → List Job → ℕ → Type 0
-Broken p js w = Lowest (p .rows) (λ (i : ℕ). rowSum p i js ≤ boundOf p i) w
+Broken p js w = (boundOf p w < rowSum p w js) × Greatest (p .rows) (λ (i : ℕ). rowExcess p i js) w
 
 -- the same sum as it is computed, job by job
 abbrev pub overJobs : (ℕ → ℕ → ℕ) → List Job → ℕ
 overJobs f [] = 0
 overJobs f (j ∷ js) = f (j .kind) (j .stage) + overJobs f js
 
--- the same, computed: the lowest resource exceeded, and the lowest row broken; 0 for none
+-- the same, computed: the lowest resource exceeded, 0 for none
 unfoldable pub exceeded : Plan → List Job → ℕ
 exceeded p js = lowest (p .resources) (λ (r : ℕ). leb (overJobs (demandOf p r) js) (capacityOf p r))
 
-unfoldable pub broken : Plan → List Job → ℕ
-broken p js = lowest (p .rows) (λ (w : ℕ). leb (overJobs (weightOf p w) js) (boundOf p w))
+-- the excess of row w; the row exceeded by the most and its excess, 0 and 0 for none; and the row alone
+abbrev pub excessOf : Plan → List Job → ℕ → ℕ
+excessOf p js w = overJobs (weightOf p w) js - boundOf p w
+
+unfoldable pub worstRow : Plan → List Job → ℕ × ℕ
+worstRow p js = greatest (p .rows) (excessOf p js)
+
+abbrev pub broken : Plan → List Job → ℕ
+broken p js = worstRow p js .0
 
 -- the number is active (document 01's term): a job of the list has it; with what stands before and after that job
 pub record Active (n : ℕ) (js : List Job) : Type 0 where

@@ -1,5 +1,5 @@
--- The largest numbers of document 01, each under one name.
-use Prim.Native.Nat.{ℕ}
+-- The largest numbers of document 01, each under one name, and the largest sum that follows from them.
+use Prim.Native.Nat.{ℕ, _*_}
 
 abbrev pub maxResources : ℕ
 maxResources = 32
@@ -30,3 +30,7 @@ maxNumber = 65535
 -- jobs active together
 abbrev pub maxJobs : ℕ
 maxJobs = 64
+
+-- of a row's sum, that of 64 jobs of weight 255: 16,320. So also of an excess, where the bound is 0
+abbrev pub maxSum : ℕ
+maxSum = maxJobs * maxUnits

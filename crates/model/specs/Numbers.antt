@@ -5,7 +5,7 @@ use mathlib.Core.List.{List, [], _∷_, _++_}
 use mathlib.Core.Path.{_≡_}
 use mathlib.Core.Logic.{_≢_}
 use lib.ListN.{getD}
-use lib.Dec.{leb, eqb}
+use lib.Dec.{leb, ltb, eqb}
 
 -- i is one of 1 to n
 abbrev pub InRange : ℕ → ℕ → Type 0
@@ -48,6 +48,17 @@ pub record Lowest (n : ℕ) (P : ℕ → Type 0) (i : ℕ) : Type 0 where
   pub within : InRange i n
   pub fails : ¬ P i
   pub below : (j : ℕ) → 1 ≤ j → j < i → P j
+
+-- the lowest of those of 1 to n at which f is greatest, and f there; 0 and 0 if f is 0 at each
+abbrev pub greatest : ℕ → (ℕ → ℕ) → ℕ × ℕ
+greatest zero f = (0, 0)
+greatest (suc n) f = let below = greatest n f in cond (ltb (below .1) (f (suc n))) (suc n, f (suc n)) below
+
+-- f is greatest at i of all of 1 to n, and of equals i is the lowest
+pub record Greatest (n : ℕ) (f : ℕ → ℕ) (i : ℕ) : Type 0 where
+  pub within : InRange i n
+  pub most : (j : ℕ) → InRange j n → f j ≤ f i
+  pub below : (j : ℕ) → 1 ≤ j → j < i → f j < f i
 
 -- P holds of each entry of the list
 abbrev pub Each : {A : Type 0} → (A → Type 0) → List A → Type 0

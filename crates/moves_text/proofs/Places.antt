@@ -12,14 +12,14 @@ use Rattle.model.specs.Limits.{maxJobs}
 use Rattle.model.specs.Numbers.{lowest, Each}
 use Rattle.model.specs.Questions.{Question, answerOf}
 use Rattle.model.specs.Plan.{lengthOf}
-use Rattle.model.specs.Jobs.{exceeded, broken, loaded, advanced, removed}
+use Rattle.model.specs.Jobs.{exceeded, excessOf, worstRow, broken, loaded, advanced, removed}
 use Rattle.model.specs.Soundness.{Sound}
 use Rattle.model.specs.Upstream.{faultyStage, faultyType, faultyRow, faultyBound, checkNumbers, checkQuestions, check}
 use Rattle.model.specs.declared.Plan.{Plan}
 use Rattle.model.specs.declared.Job.{Job}
 use Rattle.model.specs.declared.Check.{Check}
 use Rattle.model.specs.declared.Check.the-variants.{Meets, NotOneUnit}
-use Rattle.model.proofs.Decide.{Decides, holding, failing, decides-le}
+use Rattle.model.proofs.Decide.{Decides, holding, failing, decides-le, greatest-within}
 use Rattle.model.proofs.Soundness.{decides-sound}
 use Rattle.events.specs.JobList.{jobsOf, agrees}
 use Rattle.events.specs.Events.{answerNumbers, keptQuestions, ownQuestions, answer, listAfter}
@@ -90,8 +90,8 @@ module _ (p : Plan) (sound : Sound p) where
   exceeded-small js = lowest-small (p .resources) _ (omega (arith, sound .resources))
 
   broken-small : (js : List Job) → broken p js < 100
-  unfolding broken
-  broken-small js = lowest-small (p .rows) _ (omega (arith, sound .rows))
+  unfolding worstRow
+  broken-small js = omega (arith, greatest-within (excessOf p js) (p .rows), sound .rows)
 
   limits : (next : List Job) → Refusals SmallAnswer (keptQuestions p next)
   limits next = (omega (arith, exceeded-small next), (omega (arith, broken-small next), tt))

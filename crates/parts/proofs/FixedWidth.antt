@@ -9,8 +9,8 @@ use mathlib.Core.Path.{_≡_, refl, sym, ap, subst⁻¹, _∙_}
 use lib.Dec.{eqb}
 use lib.ListN.{length, set, getD, length-append, List·getD-append, List·getD-eq-default}
 use lib.Seq.{getD-set-same, getD-set-other, getD-at, ext-getD}
-use borrow.Author.Tests.{ne-eqb}
-use Rattle.model.specs.Numbers.{InRange, at, sumTo, lowest}
+use borrow.Author.Tests.{ne-eqb, lt-leb}
+use Rattle.model.specs.Numbers.{InRange, at, sumTo, lowest, greatest}
 use Rattle.model.proofs.Decide.{decided, decides-le, extend}
 use Rattle.parts.specs.Parts.{tabulate}
 
@@ -80,22 +80,37 @@ module _ (f : ℕ → ℕ) where
       ext-getD 0 xs (tabulate n f) (omega (arith, length-tabulate n))
       (λ i h. e (suc i) (omega arith) ∙ sym (tabulate-there n i (omega arith)))
 
--- searches whose tests are equal find the same
-lowest-same : (n : ℕ) (f g : ℕ → Bool) → ((i : ℕ) → InRange i n → f i ≡ g i) → lowest n f ≡ lowest n g
-lowest-same zero f g e = refl
-lowest-same (suc n) f g e = rw (lowest-same n f g (λ i h. e i (omega arith)), e (suc n) (omega arith)) refl
+-- a search over 1 to n that goes by one number after the other, and passes over those that have nothing
+module _ {A B : Type 0} (search : ℕ → (ℕ → A) → B) (nothing : A) (first : (f g : ℕ → A) → search 0 f ≡ search 0 g)
+    (next : (n : ℕ) (f g : ℕ → A) → search n f ≡ search n g → f (suc n) ≡ g (suc n) → search (suc n) f ≡ search (suc n) g)
+    (passes : (n : ℕ) (f : ℕ → A) → f (suc n) ≡ nothing → search (suc n) f ≡ search n f) where
+  -- where it asks the same it finds the same
+  search-same : (n : ℕ) (f g : ℕ → A) → ((i : ℕ) → InRange i n → f i ≡ g i) → search n f ≡ search n g
+  search-same zero f g e = first f g
+  search-same (suc n) f g e = next n f g (search-same n f g (λ i h. e i (omega arith))) (e (suc n) (omega arith))
 
-keep : (b : ℕ) → cond (eqb b 0) 0 b ≡ b
-keep zero = refl
-keep (suc b) = rw (ne-eqb (suc b) 0 (λ e. omega (arith, e))) refl
+  -- and so over m numbers of which those beyond n have nothing
+  search-lanes : (m n : ℕ) (f g : ℕ → A)
+      → n ≤ m → ((i : ℕ) → InRange i n → f i ≡ g i) → ((i : ℕ) → n < i → i ≤ m → f i ≡ nothing) → search m f ≡ search n g
+  search-lanes zero n f g low same beyond = let e : n ≡ 0 = omega arith in rw e (first f g)
+  search-lanes (suc m) n f g low same beyond =
+      ⊎-elim
+      (λ (l : n ≤ m).
+      passes m f (beyond (suc m) (omega arith) (omega arith)) ∙ search-lanes m n f g l same (λ i h k. beyond i h (omega arith)))
+      (λ (l : ¬ (n ≤ m)). let e : suc m ≡ n = omega arith in ap (λ k. search k f) e ∙ search-same n f g same)
+      (decided (decides-le n m))
 
--- a search over m numbers of which those beyond n pass
+-- the search for the lowest passes over a test that passes, and that for the greatest over 0
 pub lowest-lanes : (m n : ℕ) (f g : ℕ → Bool)
     → n ≤ m → ((i : ℕ) → InRange i n → f i ≡ g i) → ((i : ℕ) → n < i → i ≤ m → f i ≡ true) → lowest m f ≡ lowest n g
-lowest-lanes zero n f g low same beyond = let e : n ≡ 0 = omega arith in rw e refl
-lowest-lanes (suc m) n f g low same beyond =
-    ⊎-elim
-    (λ (l : n ≤ m).
-    rw (beyond (suc m) (omega arith) (omega arith)) (keep (lowest m f)) ∙ lowest-lanes m n f g l same (λ i h k. beyond i h (omega arith)))
-    (λ (l : ¬ (n ≤ m)). let e : suc m ≡ n = omega arith in ap (λ k. lowest k f) e ∙ lowest-same n f g same)
-    (decided (decides-le n m))
+lowest-lanes = search-lanes lowest true (λ f g. refl) (λ n f g e h. rw (e, h) refl) (λ n f h. rw h (keep (lowest n f)))
+  where
+    keep : (b : ℕ) → cond (eqb b 0) 0 b ≡ b
+    keep zero = refl
+    keep (suc b) = rw (ne-eqb (suc b) 0 (λ e. omega (arith, e))) refl
+
+pub greatest-lanes : (m n : ℕ) (f g : ℕ → ℕ)
+    → n ≤ m → ((i : ℕ) → InRange i n → f i ≡ g i) → ((i : ℕ) → n < i → i ≤ m → f i ≡ 0) → greatest m f ≡ greatest n g
+greatest-lanes =
+    search-lanes greatest 0 (λ f g. refl) (λ n f g e h. rw (e, h) refl)
+    (λ n f h. rw (lt-leb (suc (greatest n f .1)) (f (suc n)) (omega (arith, h))) refl)

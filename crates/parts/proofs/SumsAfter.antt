@@ -1,6 +1,6 @@
 -- Exchanging one stage for another in the sums over the jobs gives the sums over the jobs afterwards. The tests go over all
 -- 32 entries: beyond the counts of a sound plan nothing is demanded and nothing weighed, so they name what the definitions
--- name within the counts. Stated over the amount, so units and rows are one case.
+-- name within the counts, the lowest of the units and the greatest of the rows. The sums are stated over the amount, so they are one case.
 use Prim.Native.Nat.{ℕ, zero, suc, _+_, _-_, _≤_, _<_}
 use native.Mathlib.Omega.{arith}
 use mathlib.Core.Bool.{Bool, true, cond}
@@ -11,9 +11,9 @@ use lib.Dec.{leb}
 use lib.ListN.{replicate}
 use borrow.Author.Tests.{le-leb}
 use Rattle.model.specs.Limits.{maxResources, maxRows}
-use Rattle.model.specs.Numbers.{InRange, entry, at, sumTo, lowest, Split}
+use Rattle.model.specs.Numbers.{InRange, entry, at, sumTo, lowest, greatest, Split}
 use Rattle.model.specs.Plan.{noStage, lengthOf, IsStage, isStage, stageOf, demandOf, weightOf}
-use Rattle.model.specs.Jobs.{overJobs, exceeded, broken, advancedJob, advancedAt}
+use Rattle.model.specs.Jobs.{overJobs, exceeded, worstRow, broken, advancedJob, advancedAt}
 use Rattle.model.specs.Soundness.{Sound}
 use Rattle.model.specs.declared.Plan.{Plan}
 use Rattle.model.specs.declared.Stage.{Stage}
@@ -22,10 +22,11 @@ use Rattle.model.proofs.Decide.{Decides, holding, failing, decides-range, _and_
 use Rattle.model.proofs.Lists.{replicated, every-each}
 use Rattle.model.proofs.Sums.{over-jobs-append, over-jobs-moved, over-jobs-removed, over-jobs-zero}
 use Rattle.events.specs.Events.{keptAnswer}
-use Rattle.parts.specs.Parts.{tabulate, sumsOf, ceilingsOf, lowestAfter, keptAfter}
+use Rattle.parts.specs.Parts.{tabulate, sumsOf, ceilingsOf, lowestAfter, greatestAfter, worstAfter, keptAfter}
 use Rattle.parts.specs.declared.Sums.{Sums}
 use Rattle.parts.specs.declared.Ceilings.{Ceilings}
-use Rattle.parts.proofs.FixedWidth.{at-tabulate, lowest-lanes}
+use Rattle.parts.specs.declared.WorstRow.{WorstRow}
+use Rattle.parts.proofs.FixedWidth.{at-tabulate, lowest-lanes, greatest-lanes}
 
 -- no amount where there is no stage
 nothing : (n i : ℕ) → at (replicate n 0) i ≡ 0
@@ -98,32 +99,53 @@ module _ (p : Plan) (sound : Sound p) where
       ⊎-elim (λ s. sound .stages t k s .no-more-weights w h) (λ e. ap (λ (s : Stage). at (s .weight) w) e ∙ nothing 32 w) (stage-cases t k)
 
   module _ (js next : List Job) where
-    -- the lowest of m entries that is above its ceiling is the lowest within the count n
-    lanes-after : (m n : ℕ) (f : ℕ → ℕ → ℕ → ℕ) (old new ceilings : List ℕ) → n ≤ m
-        → ((i : ℕ) → Exchanged (f i) js next (at old i) (at new i)) → ((i : ℕ) → n < i → (t k : ℕ) → f i t k ≡ 0)
-        → lowestAfter m (tabulate m (λ i. overJobs (f i) js)) old new ceilings ≡ lowest n (λ i. leb (overJobs (f i) next) (at ceilings i))
-    unfolding lowestAfter
-    lanes-after m n f old new ceilings low exchanged beyond = lowest-lanes m n _ _ low (λ i h. same i (omega arith)) high
-      where
-        sum : (i : ℕ) → InRange i m → at (tabulate m (λ i. overJobs (f i) js)) i - at old i + at new i ≡ overJobs (f i) next
-        sum i h = omega (arith, at-tabulate (λ i. overJobs (f i) js) m i h, exchanged i)
+    -- m entries of which those beyond the count n are nothing
+    module _ (m n : ℕ) (f : ℕ → ℕ → ℕ → ℕ) (old new ceilings : List ℕ) (low : n ≤ m)
+        (exchanged : (i : ℕ) → Exchanged (f i) js next (at old i) (at new i)) (beyond : (i : ℕ) → n < i → (t k : ℕ) → f i t k ≡ 0) where
+      abbrev amounts : List ℕ
+      amounts = tabulate m (λ i. overJobs (f i) js)
 
-        same : (i : ℕ) → InRange i m
-            → leb (at (tabulate m (λ i. overJobs (f i) js)) i - at old i + at new i) (at ceilings i) ≡ leb (overJobs (f i) next) (at ceilings i)
-        same i h = ap (λ (n : ℕ). leb n (at ceilings i)) (sum i h)
+      -- the sum after the exchange, and that it is nothing beyond the count
+      sum : (i : ℕ) → InRange i m → at amounts i - at old i + at new i ≡ overJobs (f i) next
+      sum i h = omega (arith, at-tabulate (λ i. overJobs (f i) js) m i h, exchanged i)
 
-        high : (i : ℕ) → n < i → i ≤ m → leb (at (tabulate m (λ i. overJobs (f i) js)) i - at old i + at new i) (at ceilings i) ≡ true
-        high i above h =
-            let none = over-jobs-zero (f i) next (every-each _ (λ (j : Job). beyond i above (j .kind) (j .stage)) next) in
-            same i (omega arith) ∙ le-leb (overJobs (f i) next) (at ceilings i) (omega (arith, none))
+      none : (i : ℕ) → n < i → overJobs (f i) next ≡ 0
+      none i above = over-jobs-zero (f i) next (every-each _ (λ (j : Job). beyond i above (j .kind) (j .stage)) next)
 
-    pub kept-exchanged : (old new : Stage) → Exchange p js next old new
-        → keptAfter (sumsOf p js) old new (ceilingsOf p) ≡ keptAnswer (exceeded p next) (broken p next)
-    unfolding keptAfter sumsOf exceeded broken
-    kept-exchanged old new e =
-        ap₂ keptAnswer
-        (lanes-after maxResources (p .resources) (demandOf p) (old .demand) (new .demand) (p .capacity) (sound .resources .1) (e .units) demand-beyond)
-        (lanes-after maxRows (p .rows) (weightOf p) (old .weight) (new .weight) (p .bound) (sound .rows) (e .rows) weight-beyond)
+      -- the lowest entry above its ceiling is the lowest within the count
+      lowest-after : lowestAfter m amounts old new ceilings ≡ lowest n (λ i. leb (overJobs (f i) next) (at ceilings i))
+      unfolding lowestAfter
+      lowest-after = lowest-lanes m n _ _ low (λ i h. same i (omega arith)) high
+        where
+          same : (i : ℕ) → InRange i m → leb (at amounts i - at old i + at new i) (at ceilings i) ≡ leb (overJobs (f i) next) (at ceilings i)
+          same i h = ap (λ (n : ℕ). leb n (at ceilings i)) (sum i h)
+
+          high : (i : ℕ) → n < i → i ≤ m → leb (at amounts i - at old i + at new i) (at ceilings i) ≡ true
+          high i above h = same i (omega arith) ∙ le-leb (overJobs (f i) next) (at ceilings i) (omega (arith, none i above))
+
+      -- and the entry above its ceiling by the most is that within the count
+      abbrev excess : ℕ → ℕ
+      excess i = overJobs (f i) next - at ceilings i
+
+      greatest-after : greatestAfter m amounts old new ceilings ≡ record { row = greatest n excess .0; excess = greatest n excess .1 }
+      unfolding greatestAfter
+      greatest-after =
+          ap (λ (w : ℕ × ℕ). record { row = w .0; excess = w .1 })
+          (greatest-lanes m n _ excess low (λ i h. omega (arith, sum i (omega arith))) (λ i above h. omega (arith, sum i (omega arith), none i above)))
+
+    module _ (old new : Stage) (e : Exchange p js next old new) where
+      -- the row test gives the row and the excess of the definition
+      pub worst-exchanged : worstAfter (sumsOf p js) old new (ceilingsOf p) ≡ record { row = worstRow p next .0; excess = worstRow p next .1 }
+      unfolding sumsOf worstRow
+      worst-exchanged =
+          greatest-after maxRows (p .rows) (weightOf p) (old .weight) (new .weight) (p .bound) (sound .rows) (e .rows) weight-beyond
+
+      pub kept-exchanged : keptAfter (sumsOf p js) old new (ceilingsOf p) ≡ keptAnswer (exceeded p next) (broken p next)
+      unfolding keptAfter sumsOf exceeded
+      kept-exchanged =
+          ap₂ keptAnswer
+          (lowest-after maxResources (p .resources) (demandOf p) (old .demand) (new .demand) (p .capacity) (sound .resources .1) (e .units) demand-beyond)
+          (ap (λ (w : WorstRow). w .row) worst-exchanged)
 
 -- the two tests with what is equal
 module _ {s s′ : Sums} {c c′ : Ceilings} (sums : s ≡ s′) (ceilings : c ≡ c′) where

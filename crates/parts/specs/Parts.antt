@@ -1,5 +1,5 @@
--- What the parts of the entrances compute, each under one name. No promise rests on these: the contracts of the entrances
--- are equations with the definitions of `events` and `model`.
+-- What the parts of the entrances compute, each under one name. No promise rests on these but that of the row test, `worstAfter`: the contracts of
+-- the entrances are equations with the definitions of `events` and `model`.
 use Prim.Native.Nat.{ℕ, zero, suc, _+_, _-_, _≤_}
 use mathlib.Core.Bool.{Bool, true, cond, not, _&&_}
 use mathlib.Core.List.{List, [], _∷_, _++_}
@@ -7,7 +7,7 @@ use mathlib.Core.Path.{_≡_}
 use lib.ListN.{length, take, drop, getD, set, replicate}
 use lib.Dec.{leb, ltb, eqb}
 use Rattle.model.specs.Limits.{maxResources, maxRows, maxAllStages, maxNumber, maxJobs}
-use Rattle.model.specs.Numbers.{InRange, inRange, at, sumTo, lowest, each}
+use Rattle.model.specs.Numbers.{InRange, inRange, at, sumTo, lowest, greatest, each}
 use Rattle.model.specs.Questions.{ask, answerOf}
 use Rattle.model.specs.Plan.{lengthOf, demandOf, weightOf}
 use Rattle.model.specs.Jobs.{noJob, overJobs, hasNumber, jobOf, numbers, distinct, fits}
@@ -23,6 +23,7 @@ use Rattle.events.specs.declared.Answer.{Answer}
 use Rattle.events.specs.declared.Answer.the-variants.{Admitted, BadNumber, WrongActivity, UnknownType, Full, WrongStage}
 use Rattle.parts.specs.declared.Sums.{Sums}
 use Rattle.parts.specs.declared.Ceilings.{Ceilings}
+use Rattle.parts.specs.declared.WorstRow.{WorstRow}
 use Rattle.parts.specs.declared.Found.{Found}
 use Rattle.parts.specs.declared.Agreement.{Agreement}
 use Rattle.parts.specs.declared.StageAsked.{StageAsked}
@@ -74,11 +75,20 @@ noCeilings = record { capacity = replicate maxResources 0; bound = replicate max
 unfoldable pub lowestAfter : ℕ → List ℕ → List ℕ → List ℕ → List ℕ → ℕ
 lowestAfter n amounts old new ceilings = lowest n (λ (i : ℕ). leb (at amounts i - at old i + at new i) (at ceilings i))
 
+-- the one of n amounts that is then above its ceiling by the most, of equals the lowest, and by how much; 0 and 0 for none
+unfoldable pub greatestAfter : ℕ → List ℕ → List ℕ → List ℕ → List ℕ → WorstRow
+greatestAfter n amounts old new ceilings =
+    let most = greatest n (λ (i : ℕ). at amounts i - at old i + at new i - at ceilings i) in
+    record { row = most .0; excess = most .1 }
+
+-- the row exceeded by the most once one stage is exchanged for another, and its excess: what change request S-2 promises to all who use the row test
+abbrev pub worstAfter : Sums → Stage → Stage → Ceilings → WorstRow
+worstAfter s old new c = greatestAfter maxRows (s .rows) (old .weight) (new .weight) (c .bound)
+
 -- questions 18 and 19 once one stage is exchanged for another
 unfoldable pub keptAfter : Sums → Stage → Stage → Ceilings → Answer
 keptAfter s old new c =
-    keptAnswer (lowestAfter maxResources (s .units) (old .demand) (new .demand) (c .capacity))
-    (lowestAfter maxRows (s .rows) (old .weight) (new .weight) (c .bound))
+    keptAnswer (lowestAfter maxResources (s .units) (old .demand) (new .demand) (c .capacity)) (worstAfter s old new c .row)
 
 -- the position of the job with this number, counted from 0; as many as there are jobs where none has it
 abbrev pub positionOf : ℕ → List Job → ℕ

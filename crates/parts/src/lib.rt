@@ -14,6 +14,13 @@ pub struct Ceilings {
     pub bound: [u16; 32],
 }
 
+// The row exceeded by the most, of equals the lowest, and its excess, which is its sum less its bound; 0 and 0 where every row is kept. The excess
+// is 16,320 at most, of 64 jobs of weight 255 where the bound is 0; 32 bits hold that of any sums.
+pub struct WorstRow {
+    pub row: u32,
+    pub excess: u32,
+}
+
 // Where the job with a number stands, counted from 0, and the job; the count and no job where none has the number.
 pub struct Found {
     pub at: usize,

@@ -2,10 +2,9 @@
 // stage is exchanged for another in one act. All 32 entries are summed and tested: beyond a sound plan's counts they are 0.
 ghost use mathlib.Core.Path.{_≡_};
 ghost use Prim.Native.Nat.{_+_, _-_, _≤_, min};
-ghost use lib.Dec.{leb};
 ghost use Rattle.model.specs.Limits.{maxJobs};
 ghost use Rattle.events.specs.JobList.{jobsOf};
-ghost use Rattle.parts.specs.Parts.{indexIn, sumsOf, lowestAfter, keptAfter};
+ghost use Rattle.parts.specs.Parts.{indexIn, sumsOf, lowestAfter, greatestAfter, worstAfter, keptAfter};
 ghost use Rattle.parts.specs.Parts.{Few, Added};
 use events::Answer;
 use events::JobList;
@@ -14,6 +13,7 @@ use model::Plan;
 use model::Stage;
 use parts::Ceilings;
 use parts::Sums;
+use parts::WorstRow;
 use stages::length_of;
 use stages::stage_index;
 
@@ -21,6 +21,18 @@ fn u8_to_u16(x: u8) -> u16
     ensures { λ r. ⌜ (r ≡ x) × (r ≤ 255) ⌝ }
 {
     x as u16
+}
+
+fn u8_to_u32(x: u8) -> u32
+    ensures { λ r. ⌜ (r ≡ x) × (r ≤ 255) ⌝ }
+{
+    x as u32
+}
+
+fn u16_to_u32(x: u16) -> u32
+    ensures { λ r. ⌜ (r ≡ x) × (r ≤ 65535) ⌝ }
+{
+    x as u32
 }
 
 // Adds a stage's amounts: 64 of 255 come to 16,320.
@@ -100,25 +112,23 @@ pub fn sums_of(p: Plan, t: JobList) -> Sums
     sums
 }
 
-// What is left of an amount when the old is given back.
-fn less(amount: u16, old: u16) -> u16
-    ensures { λ r. ⌜ r ≡ amount - old ⌝ }
+// A number less another, 0 where that is the greater.
+fn less(x: u32, y: u32) -> u32
+    ensures { λ r. ⌜ r ≡ x - y ⌝ }
 {
-    if amount < old {
+    if x < y {
         return 0;
     }
-    amount - old
+    x - y
 }
 
-// An amount is within its ceiling once the old is given back and the new taken; no sum is formed that 16 bits do not hold.
-fn is_kept(amount: u16, old: u8, new: u8, ceiling: u16) -> bool
-    ensures { λ r. ⌜ r ≡ leb (amount - old + new) ceiling ⌝ }
+// By how much an amount is above its ceiling once the old is given back and the new taken; 0 where it is not. In 32 bits, which hold it for
+// any input.
+fn excess_after(amount: u16, old: u8, new: u8, ceiling: u16) -> u32
+    ensures { λ r. ⌜ r ≡ amount - old + new - ceiling ⌝ }
 {
-    let left = less(amount, u8_to_u16(old));
-    if ceiling < left {
-        return false;
-    }
-    u8_to_u16(new) <= ceiling - left
+    let left = less(u16_to_u32(amount), u8_to_u32(old));
+    less(left + u8_to_u32(new), u16_to_u32(ceiling))
 }
 
 // The lowest amount above its ceiling once the old is given back and the new taken; 0 for none.
@@ -127,12 +137,30 @@ fn lowest_above(amounts: &[u16; 32], old: &[u8; 32], new: &[u8; 32], ceilings: &
 {
     let mut i = 0;
     while i < 32 {
-        if !is_kept(amounts[i], old[i], new[i], ceilings[i]) {
+        if 0 < excess_after(amounts[i], old[i], new[i], ceilings[i]) {
             return (i + 1) as u32;
         }
         i += 1;
     }
     0
+}
+
+// The amount above its ceiling by the most once the old is given back and the new taken, of equals the lowest, and by how much; 0 and 0 for none.
+fn most_above(amounts: &[u16; 32], old: &[u8; 32], new: &[u8; 32], ceilings: &[u16; 32]) -> WorstRow
+    ensures { λ r. ⌜ r ≡ greatestAfter 32 (now (amounts .entry)) (now (old .entry)) (now (new .entry)) (now (ceilings .entry)) ⌝ }
+{
+    let mut row = 0;
+    let mut excess = 0;
+    let mut i = 0;
+    while i < 32 {
+        let above = excess_after(amounts[i], old[i], new[i], ceilings[i]);
+        if excess < above {
+            row = (i + 1) as u32;
+            excess = above;
+        }
+        i += 1;
+    }
+    WorstRow { row, excess }
 }
 
 // The capacity test: the lowest resource exceeded.
@@ -146,15 +174,15 @@ fn exceeded(sums: Sums, old: Stage, new: Stage, ceilings: Ceilings) -> u32
     lowest_above(&amounts, &given_back, &taken, &capacity)
 }
 
-// The row test: the lowest row broken.
-fn broken(sums: Sums, old: Stage, new: Stage, ceilings: Ceilings) -> u32
-    ensures { λ r. ⌜ r ≡ lowestAfter 32 (sums .rows) (old .weight) (new .weight) (ceilings .bound) ⌝ }
+// The row test: the row exceeded by the most, of equals the lowest, and its excess; 0 and 0 where every row is kept.
+pub fn worst_row(sums: Sums, old: Stage, new: Stage, ceilings: Ceilings) -> WorstRow
+    ensures { λ r. ⌜ r ≡ worstAfter sums old new ceilings ⌝ }
 {
     let amounts = sums.rows;
     let given_back = old.weight;
     let taken = new.weight;
     let bound = ceilings.bound;
-    lowest_above(&amounts, &given_back, &taken, &bound)
+    most_above(&amounts, &given_back, &taken, &bound)
 }
 
 // Questions 18 and 19 once one stage is exchanged for another.
@@ -162,7 +190,8 @@ pub fn kept_after(sums: Sums, old: Stage, new: Stage, ceilings: Ceilings) -> Ans
     ensures { λ r. ⌜ r ≡ keptAfter sums old new ceilings ⌝ }
 {
     let resource = exceeded(sums, old, new, ceilings);
-    let row = broken(sums, old, new, ceilings);
+    let worst = worst_row(sums, old, new, ceilings);
+    let row = worst.row;
     if resource != 0 {
         return Answer::OverCapacity(resource);
     }

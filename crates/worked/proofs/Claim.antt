@@ -2,7 +2,7 @@
 use mathlib.Core.List.{map}
 use mathlib.Core.Path.{_≡_, refl}
 use Rattle.model.specs.Plan.{emptyPlan, isStage, allStages, stageOf, demandOf, weightOf}
-use Rattle.model.specs.Jobs.{overStages, exceeded, broken, fits, agreeing}
+use Rattle.model.specs.Jobs.{overStages, exceeded, worstRow, fits, agreeing}
 use Rattle.model.specs.Soundness.{soundCounts, soundCapacities, soundRanks, soundLengths, soundBounds, soundStage, sound}
 use Rattle.model.specs.Upstream.{rankedUpTo, upstreamOf, oneUnit, faultyStage, faultyType, upstreamRow, faultyRow, faultyBound, check}
 use Rattle.events.specs.JobList.{listOf, agrees}
@@ -17,12 +17,12 @@ use Rattle.moves_text.specs.Division.{planLength}
 use Rattle.moves_text.specs.EventLines.{eventIn}
 use Rattle.moves_text.specs.Output.{output}
 use Rattle.worked.specs.Texts.{capacityText, largeCapacityText, stagesText, moreStagesText, crossingText, wholeInput, wholeOutput, pullInput, pullOutput, planNumbers}
-use Rattle.worked.specs.Plans.{crossingWith, crossingPlan, equation40, withoutRows, oneStation, jobsPerStage}
+use Rattle.worked.specs.Plans.{crossingWith, crossingPlan, equation40, withoutRows, oneStation, oneStage, jobsPerStage}
 use Rattle.worked.specs.Runs.{Row, result, rows}
 
 pub every-row-holds : map (λ (r : Row). result (r .asked)) rows ≡ map (λ (r : Row). r .expected) rows
-unfolding allStages stageOf demandOf weightOf overStages exceeded broken isStage fits agreeing soundCounts soundCapacities soundRanks soundLengths
+unfolding allStages stageOf demandOf weightOf overStages exceeded worstRow isStage fits agreeing soundCounts soundCapacities soundRanks soundLengths
     soundBounds soundStage sound rankedUpTo upstreamOf oneUnit faultyStage faultyType upstreamRow faultyRow faultyBound check listOf agrees
     answer listAfter entered drainFrom listDrain emptyPlan recordIn inRanges emptyDraft indexIn written heldIn isComplete reading decimal planLength eventIn output capacityText largeCapacityText stagesText
-    moreStagesText crossingText wholeInput wholeOutput pullInput pullOutput planNumbers crossingWith crossingPlan equation40 withoutRows oneStation jobsPerStage result rows
+    moreStagesText crossingText wholeInput wholeOutput pullInput pullOutput planNumbers crossingWith crossingPlan equation40 withoutRows oneStation oneStage jobsPerStage result rows
 every-row-holds = refl

@@ -70,6 +70,11 @@ unfoldable pub oneStation : Plan
 unfolding padded stage planOf
 oneStation = planOf (1 ∷ []) [] [] (2 ∷ []) (stage (1 ∷ []) [] ∷ stage (1 ∷ []) [] ∷ [])
 
+-- one type with one stage on a resource of capacity 255: rows with these bounds, in which the stage has these weights
+unfoldable pub oneStage : List ℕ → List ℕ → Plan
+unfolding padded stage planOf
+oneStage bounds weights = planOf (255 ∷ []) [] bounds (1 ∷ []) (stage (1 ∷ []) weights ∷ [])
+
 -- as many jobs at stage k of type t, numbered from n
 copies : ℕ → ℕ → ℕ → ℕ → List Job
 copies t k n zero = []

@@ -1,10 +1,11 @@
 -- Document 01's starred runs, as rows of one table: what is asked, and the numbers that the paper gives for it. With them the
 -- crossing plan's text, the whole run, as events and from bytes to bytes, a number used again after its unload, both sides of
--- the largest number, and the pulls of change request S-1, with what the ledger holds before and after one.
+-- the largest number, the pulls of change request S-1, with what the ledger holds before and after one, and the row that 19 names
+-- by change request S-2.
 use Prim.Native.Nat.{ℕ, zero, suc}
 use mathlib.Core.List.{List, [], _∷_, _++_, map}
 use Rattle.model.specs.Upstream.{check, checkNumbers}
-use Rattle.model.specs.Jobs.{rowSum, broken}
+use Rattle.model.specs.Jobs.{rowSum, worstRow}
 use Rattle.model.specs.declared.Plan.{Plan}
 use Rattle.model.specs.declared.Job.{Job}
 use Rattle.events.specs.JobList.{listOf, jobsOf, emptyList}
@@ -19,7 +20,7 @@ use Rattle.plan_text.specs.TextQuestions.{textNumber}
 use Rattle.plan_text.specs.Reading.{reading}
 use Rattle.moves_text.specs.Output.{output}
 use Rattle.worked.specs.Texts.{capacityText, largeCapacityText, stagesText, moreStagesText, crossingText, wholeInput, wholeOutput, pullInput, pullOutput, planNumbers}
-use Rattle.worked.specs.Plans.{crossingWith, crossingPlan, equation40, withoutRows, oneStation, jobsPerStage}
+use Rattle.worked.specs.Plans.{crossingWith, crossingPlan, equation40, withoutRows, oneStation, oneStage, jobsPerStage}
 
 -- what is asked
 pub data Run : Type 0 where
@@ -50,7 +51,7 @@ lines p t (e ∷ es) =
     a .0 ∷ a .1 ∷ next .count ∷ lines p next es
 
 -- the numbers that the definitions give: of a text its answer and line, or all numbers of its plan; of a check its answer and
--- two places; of jobs against the rows each row's sum and the row broken; of a drain its answer and moves, of an event its
+-- two places; of jobs against the rows each row's sum, the row exceeded by the most and its excess; of a drain its answer and moves, of an event its
 -- answer and place, both with the stages at which the jobs then stand; of events from the empty table the lines above, or the ledger: the
 -- units taken and given back of each resource, the stages still before its jobs, and the events admitted; of an input of `cellmoves`
 -- the bytes that it prints
@@ -59,7 +60,7 @@ unfolding upTo stagesOf lines
 result (read text) = let r = reading text in textNumber (r .answer) ∷ r .line ∷ []
 result (planned text) = planNumbers (reading text .plan)
 result (checked p) = let c = checkNumbers (check p) in c .0 ∷ c .1 ∷ c .2 ∷ []
-result (weighed p js) = upTo (p .rows) (λ w. rowSum p w js) ++ broken p js ∷ []
+result (weighed p js) = upTo (p .rows) (λ w. rowSum p w js) ++ worstRow p js .0 ∷ worstRow p js .1 ∷ []
 result (drained p js budget) =
     let d = listDrain p (listOf js) budget in
     endNumber (d .end) ∷ d .moves ∷ stagesOf (jobsOf (d .list))
@@ -91,10 +92,14 @@ wholeRun = Load 7 1 ∷ Load 8 2 ∷ Advance 7 ∷ Load 8 2 ∷ Advance 7 ∷ Lo
 pullRun : List Event
 pullRun = Load 8 2 ∷ Advance 8 ∷ Pull 8 ∷ Load 8 2 ∷ Advance 8 ∷ Advance 8 ∷ Load 7 1 ∷ Pull 8 ∷ Load 7 1 ∷ []
 
+-- two jobs of type 2 at stage 2 and one at stage 1 leave rows 1 and 3 of Equation 40 no room; a load of type 1 exceeds row 1 by 1 and row 3 by 2
+excessRun : List Event
+excessRun = Load 1 2 ∷ Advance 1 ∷ Load 2 2 ∷ Advance 2 ∷ Load 3 2 ∷ Load 4 1 ∷ []
+
 -- in document 01's order: the texts, the upstream check, the rows of Equation 40, the drains, the advance within one station; then the
 -- further runs
 unfoldable pub rows : List Row
-unfolding row wholeRun pullRun
+unfolding row wholeRun pullRun excessRun
 rows =
     row (read []) (7 ∷ 1 ∷ [])
     ∷ row (read capacityText) (7 ∷ 3 ∷ [])
@@ -106,10 +111,10 @@ rows =
     ∷ row (checked crossingPlan) (0 ∷ 0 ∷ 0 ∷ [])
     ∷ row (checked (crossingWith 2 0)) (25 ∷ 2 ∷ 0 ∷ [])
     ∷ row (checked (crossingWith 1 1)) (24 ∷ 1 ∷ 0 ∷ [])
-    ∷ row (weighed equation40 (jobsPerStage 1 0 0 1 1 0)) (4 ∷ 2 ∷ 7 ∷ 0 ∷ [])
-    ∷ row (weighed equation40 (jobsPerStage 1 1 0 1 1 0)) (4 ∷ 3 ∷ 9 ∷ 3 ∷ [])
-    ∷ row (weighed equation40 (jobsPerStage 1 2 0 1 0 0)) (1 ∷ 4 ∷ 8 ∷ 2 ∷ [])
-    ∷ row (weighed equation40 (jobsPerStage 1 0 0 0 2 0)) (7 ∷ 0 ∷ 8 ∷ 1 ∷ [])
+    ∷ row (weighed equation40 (jobsPerStage 1 0 0 1 1 0)) (4 ∷ 2 ∷ 7 ∷ 0 ∷ 0 ∷ [])
+    ∷ row (weighed equation40 (jobsPerStage 1 1 0 1 1 0)) (4 ∷ 3 ∷ 9 ∷ 3 ∷ 1 ∷ [])
+    ∷ row (weighed equation40 (jobsPerStage 1 2 0 1 0 0)) (1 ∷ 4 ∷ 8 ∷ 2 ∷ 1 ∷ [])
+    ∷ row (weighed equation40 (jobsPerStage 1 0 0 0 2 0)) (7 ∷ 0 ∷ 8 ∷ 1 ∷ 1 ∷ [])
     ∷ row (drained crossingPlan (jobsPerStage 1 0 0 0 0 0) 2) (31 ∷ 2 ∷ 3 ∷ [])
     ∷ row (drained crossingPlan (jobsPerStage 1 0 0 0 0 0) 3) (0 ∷ 3 ∷ [])
     ∷ row (drained crossingPlan [] 0) (0 ∷ 0 ∷ [])
@@ -126,4 +131,17 @@ rows =
     ∷ row (answered withoutRows (jobsPerStage 1 1 0 1 1 0) (Pull 11)) (0 ∷ 0 ∷ 1 ∷ 1 ∷ 2 ∷ [])
     ∷ row (booked crossingPlan (Load 8 2 ∷ Advance 8 ∷ [])) (0 ∷ 1 ∷ 1 ∷ 0 ∷ 0 ∷ 1 ∷ 2 ∷ 2 ∷ [])
     ∷ row (booked crossingPlan (Load 8 2 ∷ Advance 8 ∷ Pull 8 ∷ [])) (0 ∷ 1 ∷ 1 ∷ 0 ∷ 1 ∷ 1 ∷ 0 ∷ 3 ∷ [])
+    ∷ row (weighed equation40 (jobsPerStage 0 0 0 0 3 0)) (9 ∷ 0 ∷ 9 ∷ 1 ∷ 3 ∷ [])
+    ∷ row (weighed equation40 (jobsPerStage 1 1 0 0 2 0)) (7 ∷ 1 ∷ 10 ∷ 3 ∷ 2 ∷ [])
+    ∷ row (weighed equation40 (jobsPerStage 0 2 0 1 1 0)) (3 ∷ 4 ∷ 9 ∷ 2 ∷ 1 ∷ [])
+    ∷ row (weighed equation40 (jobsPerStage 0 4 0 3 0 0)) (0 ∷ 10 ∷ 14 ∷ 2 ∷ 7 ∷ [])
+    ∷ row (weighed equation40 (jobsPerStage 1 2 0 1 2 0)) (7 ∷ 4 ∷ 14 ∷ 3 ∷ 6 ∷ [])
+    ∷ row (weighed (oneStage (1 ∷ 0 ∷ []) (255 ∷ 255 ∷ [])) (jobsPerStage 64 0 0 0 0 0)) (16320 ∷ 16320 ∷ 2 ∷ 16320 ∷ [])
+    ∷ row (followed equation40 excessRun) (0 ∷ 0 ∷ 1 ∷ 0 ∷ 0 ∷ 1 ∷ 0 ∷ 0 ∷ 2 ∷ 0 ∷ 0 ∷ 2 ∷ 0 ∷ 0 ∷ 3 ∷ 19 ∷ 3 ∷ 3 ∷ [])
+    ∷ row (answered (oneStage (1 ∷ 1 ∷ []) (4 ∷ 2 ∷ [])) [] (Load 1 1)) (19 ∷ 1 ∷ [])
+    ∷ row (answered (oneStage (1 ∷ 1 ∷ []) (2 ∷ 4 ∷ [])) [] (Load 1 1)) (19 ∷ 2 ∷ [])
+    ∷ row (answered (oneStage (1 ∷ 2 ∷ []) (3 ∷ 4 ∷ [])) [] (Load 1 1)) (19 ∷ 1 ∷ [])
+    ∷ row (answered (oneStage (5 ∷ 0 ∷ []) (7 ∷ 3 ∷ [])) [] (Load 1 1)) (19 ∷ 2 ∷ [])
+    ∷ row (answered (oneStage (1 ∷ 1 ∷ 1 ∷ []) (2 ∷ 4 ∷ 3 ∷ [])) [] (Load 1 1)) (19 ∷ 2 ∷ [])
+    ∷ row (answered (oneStage (0 ∷ 0 ∷ []) (254 ∷ 255 ∷ [])) [] (Load 1 1)) (19 ∷ 2 ∷ [])
     ∷ []

@@ -4,6 +4,7 @@
 use crate::counts::{Counts, Group};
 use crate::guarded::Guarded;
 use crate::random::Random;
+use crate::rows::broken;
 use library::{cell, Answer, CELL, MAX_OUTPUT};
 use reference::drain::drain;
 use reference::event::{advance, load, pull, unload};
@@ -81,7 +82,19 @@ impl Sides<'_> {
         let found = self.find(call);
         self.counts.add_call(call, expected.number);
         self.compare(call, expected, found)?;
+        if expected.number == 19 {
+            self.count_rows(call, expected.first)?;
+        }
         Ok(expected)
+    }
+
+    /// A refused event leaves the table as it was, so the rows that it would break can be found.
+    fn count_rows(&mut self, call: Call, row: u32) -> Result<(), String> {
+        let broken = broken(call, &self.plan, &self.table);
+        let named = broken.filter(|broken| broken.worst == row);
+        let wrong = || format!("{call:?}: both sides name row {row}, but {broken:?}");
+        self.counts.add_broken(&named.ok_or_else(wrong)?);
+        Ok(())
     }
 
     /// The reference's answer; its table goes to the expected bytes.

@@ -1,8 +1,10 @@
-//! How often each published number occurred, and which never did.
+//! How often each published number occurred, how the rows were broken where it was 19, and what
+//! never occurred.
 
 use crate::compare::Call;
+use crate::rows::Broken;
 
-/// What answers a number.
+/// What is counted by a number: most of it answers a published one.
 #[derive(Clone, Copy, Debug, PartialEq, Eq)]
 pub enum Group {
     Text,
@@ -18,9 +20,17 @@ pub enum Group {
     RunEvent,
     /// Whether the output of a run had room: 1 or 0.
     Fit,
+    /// Where an event was answered 19: how many rows are broken.
+    RowsBroken,
+    /// Which of these is named, if they are broken by different amounts.
+    RowNamed,
+    /// How many of these are equally worst: where the lowest broken row is one of them, and where it
+    /// is not.
+    WorstFirst,
+    WorstLater,
 }
 
-const GROUPS: usize = 11;
+const GROUPS: usize = 15;
 const NUMBERS: usize = 42;
 
 #[derive(Clone, Debug)]
@@ -51,6 +61,10 @@ const REQUIRED: &[(&str, &[Group], &[usize])] = {
             &[0, 11, 13, 14, 15, 16, 17, 18, 19, 41],
         ),
         ("run, output space (1: enough)", &[Fit], &[0, 1]),
+        ("19, rows broken", &[RowsBroken], &[1, 2, 3, 4]),
+        ("19, unequal, which is named", &[RowNamed], &[1, 2, 3, 4]),
+        ("19, equally worst, the first", &[WorstFirst], &[1, 2, 3]),
+        ("19, equally worst, later ones", &[WorstLater], &[1, 2, 3]),
     ]
 };
 
@@ -77,6 +91,19 @@ impl Counts {
             Call::Drain { .. } => Group::Drain,
         };
         self.add(group, number);
+    }
+
+    /// The rows that an event answered with 19 would break.
+    pub fn add_broken(&mut self, broken: &Broken) {
+        self.add(Group::RowsBroken, broken.rows);
+        if broken.equals < broken.rows {
+            self.add(Group::RowNamed, broken.place);
+        }
+        let group = match broken.place {
+            1 => Group::WorstFirst,
+            _ => Group::WorstLater,
+        };
+        self.add(group, broken.equals);
     }
 
     /// The numbers in the output of a whole run.
@@ -141,6 +168,25 @@ mod tests {
         assert_eq!(missing.len(), all - 2);
         assert!(!missing.contains(&"event: 19 never occurred".to_string()));
         assert!(missing.contains(&"event, load: 19 never occurred".to_string()));
+    }
+
+    /// Rows broken by 2, 5, 5, then by 4, 4, then a single one.
+    #[test]
+    fn broken_rows_are_counted() {
+        let mut counts = Counts::default();
+        for [rows, worst, place, equals] in [[3, 8, 2, 2], [2, 5, 1, 2], [1, 1, 1, 1]] {
+            counts.add_broken(&Broken {
+                rows,
+                worst,
+                place,
+                equals,
+            });
+        }
+        let of = |group: Group| &counts.numbers[group as usize][..4];
+        assert_eq!(of(Group::RowsBroken), [0, 1, 1, 1]);
+        assert_eq!(of(Group::RowNamed), [0, 0, 1, 0]);
+        assert_eq!(of(Group::WorstFirst), [0, 1, 1, 0]);
+        assert_eq!(of(Group::WorstLater), [0, 0, 1, 0]);
     }
 
     #[test]

@@ -63,7 +63,8 @@ fn plan_text(random: &mut Random) -> Vec<u8> {
     let size = random.pick(&[Size::Tiny, Size::Tiny, Size::Small]);
     match random.below(100) {
         0..=39 => {
-            let plan = plans::general(random, size, Room::Tight);
+            let room = random.pick(&[Room::Tight, Room::Tight, Room::Rows]);
+            let plan = plans::general(random, size, room);
             join(&lines(random, &plan))
         }
         40..=69 => {

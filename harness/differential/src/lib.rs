@@ -10,6 +10,7 @@ pub mod inputs;
 pub mod patterns;
 pub mod plans;
 pub mod random;
+pub mod rows;
 pub mod texts;
 
 pub use cases::{run_case, run_cases, Outcome};

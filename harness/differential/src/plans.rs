@@ -18,6 +18,8 @@ pub enum Size {
 #[derive(Clone, Copy, Debug, PartialEq, Eq)]
 pub enum Room {
     Tight,
+    /// Tight bounds and wide capacities: the rows decide.
+    Rows,
     Wide,
     Any,
 }
@@ -35,7 +37,7 @@ pub fn size(random: &mut Random) -> Size {
 /// A plan of any kind: with the rows of the upstream rule, with random rows, or without rows.
 pub fn plan(random: &mut Random) -> Plan {
     let size = size(random);
-    let room = random.pick(&[Room::Tight, Room::Tight, Room::Wide, Room::Any]);
+    let room = random.pick(&[Room::Tight, Room::Tight, Room::Rows, Room::Wide, Room::Any]);
     match random.below(10) {
         0..=2 => conforming(random, size),
         3..=7 => general(random, size, room),
@@ -92,7 +94,7 @@ pub fn general(random: &mut Random, size: Size, room: Room) -> Plan {
     for capacity in &mut plan.capacity[..resources] {
         *capacity = match room {
             Room::Tight => random.between(1, 3) as u8,
-            Room::Wide => random.between(200, 255) as u8,
+            Room::Rows | Room::Wide => random.between(200, 255) as u8,
             Room::Any => random.between(1, 255) as u8,
         };
     }
@@ -120,7 +122,7 @@ fn set_demands(random: &mut Random, plan: &mut Plan, place: usize, demands: usiz
     for step in 0..demands {
         let resource = (first + step) % resources;
         let highest = match room {
-            Room::Wide => 3,
+            Room::Rows | Room::Wide => 3,
             Room::Tight | Room::Any => usize::from(plan.capacity[resource]),
         };
         plan.stages[place].demand[resource] = random.between(1, highest) as u8;
@@ -136,7 +138,7 @@ fn set_row(random: &mut Random, plan: &mut Plan, row: usize, room: Room, heavy: 
     }
     plan.bound[row] = match room {
         _ if random.chance(12) => 0,
-        Room::Tight => random.between(0, if heavy { 600 } else { 6 }) as u16,
+        Room::Tight | Room::Rows => random.between(0, if heavy { 600 } else { 6 }) as u16,
         Room::Wide => random.between(20_000, 65_535) as u16,
         Room::Any => random.between(0, 65_535) as u16,
     };
@@ -203,7 +205,7 @@ pub fn weigh_upstream(plan: &mut Plan) {
 }
 
 /// Units of each resource and sum of each row that a table's jobs use.
-fn used(plan: &Plan, table: &Table) -> ([u32; 32], [u32; 32]) {
+pub fn used(plan: &Plan, table: &Table) -> ([u32; 32], [u32; 32]) {
     let mut units = [0; 32];
     let mut sums = [0; 32];
     for job in &table.jobs[..usize::from(table.count)] {

@@ -1,5 +1,5 @@
-//! The worked runs of document 01, and pulls (document 02, S-1), asked of the library itself,
-//! without the reference.
+//! The worked runs of document 01, pulls and the row that 19 names (document 02, S-1 and S-2),
+//! asked of the library itself, without the reference.
 
 use library::{cell, Answer, CELL, MAX_OUTPUT};
 use std::collections::BTreeSet;
@@ -7,6 +7,7 @@ use std::collections::BTreeSet;
 #[path = "../../reference/tests/document/mod.rs"]
 mod document;
 
+use document::rows::{crowded, weighed, ADVANCES, LOADS, RUN};
 use document::{tabbed, table, CROSSING, EQUATION_40, WITHOUT_ROWS};
 
 fn answer(number: u32, first: u32, second: u32) -> Answer {
@@ -40,13 +41,27 @@ fn counts(bytes: &[u8]) -> [u8; 6] {
     counts
 }
 
+fn assert_run(input: &str, printed: &str) {
+    let mut output = vec![0; MAX_OUTPUT];
+    let length = library::run(&tabbed(input), &mut output);
+    assert_eq!(output[..length], tabbed(printed), "{input}");
+}
+
 /// What a run of the crossing plan prints of its events.
 fn assert_printed(events: &str, printed: &str) {
-    let input = tabbed(&format!("{CROSSING}E/{events}"));
-    let printed = tabbed(&format!("P 0 0/Q 0 0 0/{printed}"));
-    let mut output = vec![0; MAX_OUTPUT];
-    let length = library::run(&input, &mut output);
-    assert_eq!(output[..length], printed, "{events}");
+    let input = format!("{CROSSING}E/{events}");
+    assert_run(&input, &format!("P 0 0/Q 0 0 0/{printed}"));
+}
+
+/// An event that is refused writes no byte.
+fn assert_refused(before: &[u8], event: impl Fn(&mut [u8]) -> Answer, number: u32, place: u32) {
+    let mut after = before.to_vec();
+    assert_eq!(event(&mut after), answer(number, place, 0));
+    assert_eq!(after, before);
+}
+
+fn load(bytes: &mut [u8]) -> Answer {
+    library::load(bytes, 99, 1)
 }
 
 #[test]
@@ -137,6 +152,59 @@ fn equation_40() {
 }
 
 #[test]
+fn whole_run_with_broken_rows() {
+    let (input, output) = RUN;
+    assert_run(input, output);
+}
+
+/// Rows broken by different amounts and by the same: the one exceeded by the most, of equals the
+/// lowest.
+#[test]
+fn rows_broken_by_a_load() {
+    for &(bounds, weights, row, _) in LOADS {
+        let empty = cell(&weighed(bounds, &[weights]), [0; 6]);
+        assert_refused(&empty, load, 19, row);
+    }
+}
+
+#[test]
+fn rows_broken_by_an_advance() {
+    for &(bounds, stages, row, _) in ADVANCES {
+        let two = cell(&weighed(bounds, &stages), [2, 0, 0, 0, 0, 0]);
+        for job in [1, 2] {
+            assert_refused(&two, |bytes| library::advance(bytes, job), 19, row);
+        }
+    }
+}
+
+/// 63 jobs have 16,065 and 64 have 16,320: excess 254, 255, 255.
+#[test]
+fn largest_excess_of_an_event() {
+    let text = weighed(&[16_066, 16_065, 16_065], &[&[255; 3]]);
+    assert_refused(&cell(&text, [63, 0, 0, 0, 0, 0]), load, 19, 2);
+}
+
+/// 18 keeps the lowest resource and comes before the rows.
+#[test]
+fn capacities_before_rows() {
+    for (text, number, place) in crowded() {
+        assert_refused(&cell(&text, [1, 0, 0, 0, 0, 0]), load, number, place);
+    }
+}
+
+/// A table whose rows are broken is 12 without a place, also where 64 jobs come to the greatest
+/// excess, 16,320.
+#[test]
+fn rows_broken_before() {
+    let two = cell(&weighed(&[5, 2], &[&[3, 3]]), [2, 0, 0, 0, 0, 0]);
+    let full = cell(&weighed(&[1, 0], &[&[255; 2]]), [64, 0, 0, 0, 0, 0]);
+    for bytes in [two, full] {
+        assert_refused(&bytes, load, 12, 0);
+        assert_refused(&bytes, |bytes| library::unload(bytes, 1), 12, 0);
+    }
+}
+
+#[test]
 fn drains() {
     let mut bytes = cell(CROSSING, [1, 0, 0, 0, 0, 0]);
     assert_eq!(library::drain(&mut bytes, 2), answer(31, 2, 0));
@@ -194,7 +262,6 @@ fn pull_from_a_locked_table() {
     assert_eq!(library::drain(&mut bytes, 9), answer(0, 8, 0));
 }
 
-/// A refused pull writes no byte.
 #[test]
 fn refused_pulls() {
     let broken = cell(EQUATION_40, [1, 1, 0, 1, 1, 0]);
@@ -211,9 +278,7 @@ fn refused_pulls() {
         (kept, 99, 14),
     ];
     for (before, job, number) in cases {
-        let mut after = before.clone();
-        assert_eq!(library::pull(&mut after, job), answer(number, 0, 0));
-        assert_eq!(after, before);
+        assert_refused(&before, |bytes| library::pull(bytes, job), number, 0);
     }
 }
 

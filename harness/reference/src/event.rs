@@ -1,5 +1,5 @@
-//! The events load, advance and unload (document 01, "Table and events"), and pull (document 02,
-//! S-1).
+//! The events load, advance and unload (document 01, "Table and events"; the place of 19:
+//! document 02, S-2), and pull (document 02, S-1).
 
 use crate::plan::{index, Plan};
 use crate::table::{Job, Table, Usage, MAX_JOBS, MAX_NUMBER};
@@ -165,13 +165,17 @@ pub(crate) fn unload_at(
     Ok(())
 }
 
-/// Questions 18 and 19 of what would be used afterwards.
+/// Questions 18 and 19 of what would be used afterwards: 18 names the lowest resource exceeded, 19
+/// the row exceeded by the most.
 fn ask_limits(plan: &Plan, after: &Usage) -> Result<(), Answer> {
     if let Some(place) = after.exceeded(plan) {
         return Err(Answer { number: 18, place });
     }
     match after.broken(plan) {
-        Some(place) => Err(Answer { number: 19, place }),
+        Some(broken) => Err(Answer {
+            number: 19,
+            place: broken.row,
+        }),
         None => Ok(()),
     }
 }

@@ -1,5 +1,5 @@
-//! Document 01 and request S-1 of document 02 in ordinary safe Rust: the expected answers of the
-//! differential tests and the other side of the benchmark. Written from the documents alone.
+//! Document 01 and requests S-1 and S-2 of document 02 in ordinary safe Rust: the expected answers
+//! of the differential tests and the other side of the benchmark. Written from the documents alone.
 
 #![forbid(unsafe_code)]
 

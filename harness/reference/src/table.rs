@@ -1,4 +1,5 @@
-//! The table of active jobs and its agreement with a plan (document 01, "Table and events").
+//! The table of active jobs and its agreement with a plan (document 01, "Table and events"; which
+//! broken row is named: document 02, S-2).
 
 use crate::plan::{Plan, Stage, MAX_RESOURCES, MAX_ROWS};
 
@@ -33,6 +34,14 @@ pub struct Table {
 pub struct Usage {
     units: [u16; MAX_RESOURCES],
     sums: [u16; MAX_ROWS],
+}
+
+/// A row whose sum is above its bound, counted from 1, and by how much: at most the sum itself,
+/// 16,320, so 16 bits are enough for it too.
+#[derive(Clone, Copy, Debug, PartialEq, Eq)]
+pub struct BrokenRow {
+    pub row: u32,
+    pub excess: u16,
 }
 
 impl Table {
@@ -115,10 +124,16 @@ impl Usage {
         Some(place as u32 + 1)
     }
 
-    /// The lowest row whose bound is broken, counted from 1.
-    pub fn broken(&self, plan: &Plan) -> Option<u32> {
-        let mut pairs = self.sums.iter().zip(&plan.bound);
-        let place = pairs.position(|(sum, bound)| sum > bound)?;
-        Some(place as u32 + 1)
+    /// The row exceeded by the most and its excess; of equals the lowest, since only a greater
+    /// excess takes its place. A kept row has no excess, so it is never the one.
+    pub fn broken(&self, plan: &Plan) -> Option<BrokenRow> {
+        let mut worst = BrokenRow { row: 0, excess: 0 };
+        for (row, (sum, &bound)) in (1..).zip(self.sums.iter().zip(&plan.bound)) {
+            let excess = sum.saturating_sub(bound);
+            if excess > worst.excess {
+                worst = BrokenRow { row, excess };
+            }
+        }
+        (worst.excess > 0).then_some(worst)
     }
 }

@@ -1,20 +1,16 @@
 //! Pulling a scrapped job (document 02, S-1), worked out by hand.
 
 use reference::drain::{drain, Drained};
-use reference::event::{self, Answer};
+use reference::event;
 use reference::run::run;
 use reference::{Job, Plan, Table};
 
 mod document;
 
-use document::{plan, tabbed, table, CROSSING, EQUATION_40, WITHOUT_ROWS};
+use document::{answer, plan, tabbed, table, CROSSING, EQUATION_40, WITHOUT_ROWS};
 
 /// Room for 64 jobs on three stages of one type or on the only stage of another.
 const ROOMY: &str = "C 1 2 0/R 1 64/T 1 3/T 2 1/S 1 1 1 1/S 1 2 1 1/S 1 3 1 1/S 2 1 1 1/";
-
-fn answer(number: u32, place: u32) -> Answer {
-    Answer { number, place }
-}
 
 /// A table of jobs by number, type and stage.
 fn jobs(list: &[[u32; 3]]) -> Table {

@@ -1,7 +1,7 @@
 //! The worked runs of document 01 ("The program", "Runs on both sides", "Wrong turns").
 
 use reference::drain::{drain, Drained};
-use reference::event::{self, Answer};
+use reference::event;
 use reference::run::run;
 use reference::text::read_plan;
 use reference::upstream::{check, Check};
@@ -9,7 +9,7 @@ use reference::{Job, Plan, Table};
 
 mod document;
 
-use document::{plan, tabbed, table, CROSSING, EQUATION_40, WITHOUT_ROWS};
+use document::{answer, plan, tabbed, table, CROSSING, EQUATION_40, WITHOUT_ROWS};
 
 /// Number and line of a text's answer; a refusal gives the empty plan.
 fn read(text: &str) -> (u32, u32) {
@@ -19,10 +19,6 @@ fn read(text: &str) -> (u32, u32) {
         assert_eq!(reading.plan, Plan::EMPTY);
     }
     (reading.number, reading.line)
-}
-
-fn answer(number: u32, place: u32) -> Answer {
-    Answer { number, place }
 }
 
 #[test]

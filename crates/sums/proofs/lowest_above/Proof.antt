@@ -1,9 +1,11 @@
 -- No entry passed is above its ceiling, so the one at which the loop is left is the lowest.
-use Prim.Native.Nat.{_-_, _≤_}
+use Prim.Native.Nat.{ℕ, _-_, _≤_, _<_}
 use native.Mathlib.Omega.{arith}
-use mathlib.Core.Path.{_≡_, refl, sym, _∙_}
+use mathlib.Core.Bool.{true, false}
+use mathlib.Core.Path.{_≡_, refl, sym}
 use borrow.Author.Needs.{needs}
-use borrow.Author.Tests.{not-true, not-false}
+use borrow.Author.Tests.{le-leb, lt-leb}
+use lib.Dec.{leb}
 use Rattle.model.proofs.Search.{lowest-more, lowest-at}
 use Rattle.parts.specs.Parts.{lowestAfter}
 use Rattle.sums.proofs.lowest_above.Statement.{statement}
@@ -15,33 +17,40 @@ Inv-loop amounts old new ceilings i₀ i = (i ≤ 32) × (lowestAfter i amounts 
 abbrev μ-loop : tie.MeasureT-loop
 μ-loop amounts old new ceilings i₀ i = 32 - i
 
-abbrev turn : tie.After-is-kept Inv-loop μ-loop → tie.At-loop Inv-loop μ-loop
+-- no excess, and some
+within : (sum ceiling : ℕ) {excess : ℕ} → excess ≡ sum - ceiling → excess ≤ 0 → leb sum ceiling ≡ true
+within sum ceiling e h = le-leb sum ceiling (omega arith)
+
+over : (sum ceiling : ℕ) {excess : ℕ} → excess ≡ sum - ceiling → 0 < excess → leb sum ceiling ≡ false
+over sum ceiling e h = lt-leb sum ceiling (omega arith)
+
+abbrev turn : tie.After-excess-after Inv-loop μ-loop → tie.At-loop Inv-loop μ-loop
 turn c = c .before .before .before .before .before .before
 
 loop-holds : tie.Need-loop-holds Inv-loop μ-loop
 unfolding lowestAfter
 loop-holds c = (search needs, refl)
 
-mul-is-kept : tie.Need-mul-is-kept Inv-loop μ-loop
-mul-is-kept c = search needs
+mul-excess-after : tie.Need-mul-excess-after Inv-loop μ-loop
+mul-excess-after c = search needs
 
-element-copy-out-is-kept : tie.Need-element-copy-out-is-kept Inv-loop μ-loop
-element-copy-out-is-kept c = search needs
+element-copy-out-excess-after : tie.Need-element-copy-out-excess-after Inv-loop μ-loop
+element-copy-out-excess-after c = search needs
 
-element-copy-out-is-kept-2 : tie.Need-element-copy-out-is-kept-2 Inv-loop μ-loop
-element-copy-out-is-kept-2 c = search needs
+element-copy-out-excess-after-2 : tie.Need-element-copy-out-excess-after-2 Inv-loop μ-loop
+element-copy-out-excess-after-2 c = search needs
 
-element-copy-out-is-kept-3 : tie.Need-element-copy-out-is-kept-3 Inv-loop μ-loop
-element-copy-out-is-kept-3 c = search needs
+element-copy-out-excess-after-3 : tie.Need-element-copy-out-excess-after-3 Inv-loop μ-loop
+element-copy-out-excess-after-3 c = search needs
 
-mul-is-kept-2 : tie.Need-mul-is-kept-2 Inv-loop μ-loop
-mul-is-kept-2 c = search needs
+mul-excess-after-2 : tie.Need-mul-excess-after-2 Inv-loop μ-loop
+mul-excess-after-2 c = search needs
 
-element-copy-out-is-kept-4 : tie.Need-element-copy-out-is-kept-4 Inv-loop μ-loop
-element-copy-out-is-kept-4 c = search needs
+element-copy-out-excess-after-4 : tie.Need-element-copy-out-excess-after-4 Inv-loop μ-loop
+element-copy-out-excess-after-4 c = search needs
 
-is-kept-requires : tie.Need-is-kept-requires Inv-loop μ-loop
-is-kept-requires c κs = search needs
+excess-after-requires : tie.Need-excess-after-requires Inv-loop μ-loop
+excess-after-requires c κs = search needs
 
 add-result : tie.Need-add-result Inv-loop μ-loop
 add-result c = search needs
@@ -53,7 +62,7 @@ returns : tie.Need-returns Inv-loop μ-loop
 unfolding lowestAfter
 returns c =
     let l = turn (c .before) .loop in
-    sym (lowest-at _ 32 (l .i) (omega arith) (l .inv .1) (sym (c .before .is-kept .ensures) ∙ not-true _ (c .if1 .taken)))
+    sym (lowest-at _ 32 (l .i) (omega arith) (l .inv .1) (over _ _ (c .before .excess-after .ensures) (c .if1 .taken)))
 
 add-i : tie.Need-add-i Inv-loop μ-loop
 add-i c = search needs
@@ -65,7 +74,7 @@ loop-again : tie.Need-loop-again Inv-loop μ-loop
 unfolding lowestAfter
 loop-again c =
     let l = turn (c .before) .loop in
-    (search needs, lowest-more _ (l .i) (l .inv .1) (sym (c .before .is-kept .ensures) ∙ not-false _ (c .if1 .left)))
+    (search needs, lowest-more _ (l .i) (l .inv .1) (within _ _ (c .before .excess-after .ensures) (c .if1 .left)))
 
 returns-2 : tie.Need-returns-2 Inv-loop μ-loop
 returns-2 c = let l = c .before .loop in let last : l .i ≡ 32 = omega arith in rw last at (sym (l .inv .1))
@@ -77,13 +86,13 @@ lowest-above-spec =
     Inv-loop
     μ-loop
     loop-holds
-    mul-is-kept
-    element-copy-out-is-kept
-    element-copy-out-is-kept-2
-    element-copy-out-is-kept-3
-    mul-is-kept-2
-    element-copy-out-is-kept-4
-    is-kept-requires
+    mul-excess-after
+    element-copy-out-excess-after
+    element-copy-out-excess-after-2
+    element-copy-out-excess-after-3
+    mul-excess-after-2
+    element-copy-out-excess-after-4
+    excess-after-requires
     add-result
     cast-result
     returns

@@ -1,7 +1,11 @@
-//! The plans that document 01 works with, and tables by their jobs per stage, for every test of its runs.
+//! The plans that document 01 works with, tables by their jobs per stage and the answers to events,
+//! for every test of its runs.
 
 #![allow(dead_code)] // each test file uses some of these
 
+pub mod rows;
+
+use reference::event::Answer;
 use reference::text::read_plan;
 use reference::{Job, Plan, Table};
 
@@ -44,4 +48,8 @@ pub fn table(counts: [u8; 6]) -> Table {
         }
     }
     table
+}
+
+pub fn answer(number: u32, place: u32) -> Answer {
+    Answer { number, place }
 }
