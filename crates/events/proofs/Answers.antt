@@ -142,7 +142,7 @@ module _ (p : Plan) (sound : Sound p) (js : List Job) (agreeing : Agreeing p js)
         let r = exceeded p l in
         let w = broken p l in
         let over = place-after (λ i. Says 18 i (OverCapacity r)) (KeepsCapacities p) (Exceeded p) r refl (lowest-exceeded p l staged) in
-        let row = place-after (λ i. Says 19 i (RowBroken w)) (KeepsRows p) (Broken p) w refl (λ h. worst-broken p l staged h .0) in
+        let row = place-after (λ i. Says 19 i (RowBroken w)) (KeepsRows p) (Broken p) w refl (worst-broken p l staged) in
         asked (decides-after (KeepsCapacities p) (decides-capacities p l staged)) over refl λ _.
         asked (decides-after (KeepsRows p) (decides-rows p l staged)) row refl λ _.
         done

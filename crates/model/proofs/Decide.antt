@@ -143,6 +143,14 @@ module _ (P : ℕ → Type 0) (f : ℕ → Bool) where
     pub lowest-found : (¬ ((i : ℕ) → InRange i n → P i)) → Lowest n P (lowest n f)
     lowest-found h = ⊎-elim (λ s. absurd (h (s .1))) (λ (l : Lowest n P (lowest n f)). l) (searched n d)
 
+-- a search finds one of 1 to n or says 0
+pub lowest-within : (n : ℕ) (f : ℕ → Bool) → lowest n f ≤ n
+lowest-within n f = ⊎-elim (λ none. omega (arith, none .0)) (λ l. l .within .1) (searched (λ i. f i ≡ true) f n (λ i h. passing (f i)))
+  where
+    passing : (b : Bool) → Decides (b ≡ true) b
+    passing true = holding refl
+    passing false = failing false≢true
+
 -- the search for the lowest of 1 to n at which f is greatest, of which there is one
 module _ (f : ℕ → ℕ) where
   pub greatest-one : {n : ℕ} (i j : ℕ) → Greatest n f i → Greatest n f j → i ≡ j
@@ -152,7 +160,7 @@ module _ (f : ℕ → ℕ) where
       not-below i j a b h = omega (arith, b .below i (a .within .0) h, a .most j (b .within))
 
   -- what it finds: f is nowhere above the value found; and that is 0 with number 0, or f at the number found, above 0 and above f at each lower one
-  pub record FindsGreatest (n : ℕ) (m : ℕ × ℕ) : Type 0 where
+  record FindsGreatest (n : ℕ) (m : ℕ × ℕ) : Type 0 where
     pub most : (j : ℕ) → InRange j n → f j ≤ m .1
     pub found : ((m .0 ≡ 0) × (m .1 ≡ 0)) ⊎ (InRange (m .0) n × (m .1 ≡ f (m .0)) × (0 < m .1) × ((j : ℕ) → 1 ≤ j → j < m .0 → f j < m .1))
 
@@ -179,11 +187,12 @@ module _ (f : ℕ → ℕ) where
     pub greatest-at-most : (most : ℕ) → ((j : ℕ) → InRange j n → f j ≤ most) → greatest n f .1 ≤ most
     greatest-at-most most h = ⊎-elim (λ none. omega (arith, none .1)) (λ k. omega (arith, h _ (k .0), k .1)) (searched-greatest n .found)
 
-    pub greatest-found : (¬ ((j : ℕ) → InRange j n → f j ≡ 0))
-        → Greatest n f (greatest n f .0) × (greatest n f .1 ≡ f (greatest n f .0)) × (0 < f (greatest n f .0))
-    greatest-found some =
+    -- so f is 0 at each number, or the number found is the one at which it is greatest
+    pub greatest-found : (((j : ℕ) → InRange j n → f j ≡ 0) × (greatest n f .0 ≡ 0) × (greatest n f .1 ≡ 0))
+        ⊎ (Greatest n f (greatest n f .0) × (greatest n f .1 ≡ f (greatest n f .0)) × (0 < f (greatest n f .0)))
+    greatest-found =
         let s = searched-greatest n in
-        ⊎-elim (λ none. absurd (some (λ j h. omega (arith, s .most j h, none .1))))
+        ⊎-map (λ none. (λ j h. omega (arith, s .most j h, none .1), none .0, none .1))
         (λ h. (
           record { within = h .0; most = λ j r. omega (arith, s .most j r, h .1); below = λ j low high. omega (arith, h .3 j low high, h .1) },
           h .1,
@@ -195,11 +204,10 @@ module _ (f : ℕ → ℕ) where
     pub decides-greatest : (P : ℕ → Type 0) → ((i : ℕ) → InRange i n → (P i → f i ≡ 0) × (f i ≡ 0 → P i))
         → Decides ((i : ℕ) → InRange i n → P i) (eqb (greatest n f .0) 0)
     decides-greatest P zero-where =
-        let s = searched-greatest n in
         decides-zero
-        (⊎-map (λ none. (none .0, λ i h. zero-where i h .1 (omega (arith, s .most i h, none .1))))
-        (λ h. (h .0 .0, λ all. omega (arith, zero-where _ (h .0) .0 (all _ (h .0)), h .1, h .2)))
-        (s .found))
+        (⊎-map (λ none. (none .1, λ i h. zero-where i h .1 (none .0 i h)))
+        (λ h. (h .0 .within .0, λ all. omega (arith, zero-where _ (h .0 .within) .0 (all _ (h .0 .within)), h .2)))
+        greatest-found)
 
 -- over the entries of a list
 module _ {A : Type 0} {P : A → Type 0} {f : A → Bool} (d : (x : A) → Decides (P x) (f x)) where

@@ -1,18 +1,18 @@
 -- Lists of jobs: a number names one job of a list whose numbers differ, so an event's list is the one that the model
 -- names; the tests on a list decide whether it agrees with the plan; and the row that is named is the one exceeded by the most.
-use Prim.Native.Nat.{ℕ, _-_, _≤_}
+use Prim.Native.Nat.{ℕ, _-_, _≤_, _<_}
 use native.Mathlib.Omega.{arith}
 use mathlib.Core.Bool.{false}
 use mathlib.Core.List.{List, [], _∷_, _++_}
-use mathlib.Core.Logic.{_≢_, _⊎_, inl, inr, ⊎-elim}
+use mathlib.Core.Logic.{_≢_, _⊎_, inl, inr, ⊎-elim, ⊎-map}
 use mathlib.Core.Path.{_≡_, refl, sym, ap, subst, _∙_}
 use lib.Dec.{eqb, leb}
 use lib.ListN.{length, length-append}
 use borrow.Author.Tests.{eq-eqb, ne-eqb}
 use Rattle.model.specs.Limits.{maxNumber, maxUnits, maxJobs, maxSum}
-use Rattle.model.specs.Numbers.{InRange, Each, Distinct}
+use Rattle.model.specs.Numbers.{InRange, Greatest, Each, Distinct}
 use Rattle.model.specs.Plan.{capacityOf, boundOf, demandOf, weightOf, lengthOf}
-use Rattle.model.specs.Jobs.{overJobs, unitsHeld, KeepsCapacities, KeepsRows, Exceeded, rowExcess, Broken, exceeded, excessOf, worstRow, broken, Active, isActive}
+use Rattle.model.specs.Jobs.{overJobs, unitsHeld, KeepsCapacities, KeepsRows, Exceeded, rowExcess, Broken, RowTest, exceeded, excessOf, worstRow, broken, Active, isActive}
 use Rattle.model.specs.Jobs.{jobOf, advancedJob, advanced, removed, numbers, Numbered, AtStage, Agreeing, distinct, fits, agreeing}
 use Rattle.model.specs.Soundness.{Sound}
 use Rattle.model.specs.declared.Plan.{Plan}
@@ -150,27 +150,34 @@ module _ (p : Plan) (js : List Job) (staged : Each (AtStage p) js) where
   unfolding worstRow
   decides-rows = decides-greatest (excessOf p js) (p .rows) _ (λ w h. (λ k. omega (arith, excess w), λ e. omega (arith, excess w)))
 
-  -- the row that is named is the one worded, and its excess is the one found with it
-  pub worst-broken : (¬ KeepsRows p js) → Broken p js (broken p js) × (worstRow p js .1 ≡ rowExcess p (broken p js) js)
+  -- the row and the excess found are those of the row test as worded
+  pub row-test : RowTest p js (worstRow p js .0) (worstRow p js .1)
   unfolding worstRow
-  worst-broken h =
-      let w = broken p js in
-      let found = greatest-found (excessOf p js) (p .rows) (λ none. h (λ v r. omega (arith, none v r, excess v))) in (
+  row-test = ⊎-map (λ none. (λ v r. omega (arith, none .0 v r, excess v), none .1, none .2)) found (greatest-found (excessOf p js) (p .rows))
+    where
+      w : ℕ
+      w = broken p js
+
+      found : Greatest (p .rows) (excessOf p js) w × (worstRow p js .1 ≡ excessOf p js w) × (0 < excessOf p js w)
+          → Broken p js w × (worstRow p js .1 ≡ rowExcess p w js)
+      found (most, same, above) = (
         (
-          omega (arith, found .2, excess w),
+          omega (arith, excess w),
           record {
-            within = found .0 .within;
-            most = λ v r. omega (arith, found .0 .most v r, excess v, excess w);
-            below = λ v low high. omega (arith, found .0 .below v low high, excess v, excess w);
+            within = most .within;
+            most = λ v r. omega (arith, most .most v r, excess v, excess w);
+            below = λ v low high. omega (arith, most .below v low high, excess v, excess w);
           },
         ),
-        found .1 ∙ sym (excess w),
+        same ∙ sym (excess w),
       )
 
-  -- and no other row is worded so
+  -- so the row that is named is the one worded, and no other is
+  pub worst-broken : (¬ KeepsRows p js) → Broken p js (broken p js)
+  worst-broken h = ⊎-elim (λ kept. absurd (h (kept .0))) (λ told. told .0) row-test
+
   pub broken-one : (w : ℕ) → Broken p js w → w ≡ broken p js
-  broken-one w h =
-      greatest-one _ w (broken p js) (h .1) (worst-broken (λ keeps. omega (arith, keeps w (h .1 .within), h .0)) .0 .1)
+  broken-one w h = greatest-one _ w (broken p js) (h .1) (worst-broken (λ keeps. omega (arith, keeps w (h .1 .within), h .0)) .1)
 
 -- a job weighs at most 255 in a row, so 64 jobs come to 16,320, and no excess is above that
 module _ (p : Plan) (sound : Sound p) where

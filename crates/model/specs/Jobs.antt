@@ -3,6 +3,7 @@
 use Prim.Native.Nat.{ℕ, _+_, _-_, _*_, _≤_, _<_}
 use mathlib.Core.Bool.{Bool, true, false, cond, not, _&&_, _||_}
 use mathlib.Core.List.{List, [], _∷_, _++_, map}
+use mathlib.Core.Logic.{_⊎_}
 use mathlib.Core.Path.{_≡_}
 use lib.Dec.{leb, ltb, eqb}
 use Rattle.model.specs.Limits.{maxNumber}
@@ -53,6 +54,10 @@ rowExcess p w js = rowSum p w js - boundOf p w
 abbrev pub Broken : Plan → List Job → ℕ → Type 0
 Broken p js w = (boundOf p w < rowSum p w js) × Greatest (p .rows) (λ (i : ℕ). rowExcess p i js) w
 
+-- what the row test says of these jobs: 0 and 0 where every row is kept, and else the row exceeded by the most and its excess
+abbrev pub RowTest : Plan → List Job → ℕ → ℕ → Type 0
+RowTest p js row excess = (KeepsRows p js × (row ≡ 0) × (excess ≡ 0)) ⊎ (Broken p js row × (excess ≡ rowExcess p row js))
+
 -- the same sum as it is computed, job by job
 abbrev pub overJobs : (ℕ → ℕ → ℕ) → List Job → ℕ
 overJobs f [] = 0
@@ -62,7 +67,7 @@ overJobs f (j ∷ js) = f (j .kind) (j .stage) + overJobs f js
 unfoldable pub exceeded : Plan → List Job → ℕ
 exceeded p js = lowest (p .resources) (λ (r : ℕ). leb (overJobs (demandOf p r) js) (capacityOf p r))
 
--- the excess of row w; the row exceeded by the most and its excess, 0 and 0 for none; and the row alone
+-- the excess of row w; the row exceeded by the most and its excess, 0 and 0 where every row is kept; and the row alone
 abbrev pub excessOf : Plan → List Job → ℕ → ℕ
 excessOf p js w = overJobs (weightOf p w) js - boundOf p w
 

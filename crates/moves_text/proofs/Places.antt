@@ -6,7 +6,6 @@ use mathlib.Core.Bool.{Bool, true, false, cond}
 use mathlib.Core.List.{List, [], _∷_}
 use mathlib.Core.Logic.{⊎-elim}
 use mathlib.Core.Path.{_≡_}
-use lib.Dec.{eqb}
 use lib.ListN.{length, drop}
 use Rattle.model.specs.Limits.{maxJobs}
 use Rattle.model.specs.Numbers.{lowest, Each}
@@ -19,7 +18,7 @@ use Rattle.model.specs.declared.Plan.{Plan}
 use Rattle.model.specs.declared.Job.{Job}
 use Rattle.model.specs.declared.Check.{Check}
 use Rattle.model.specs.declared.Check.the-variants.{Meets, NotOneUnit}
-use Rattle.model.proofs.Decide.{Decides, holding, failing, decides-le, greatest-within}
+use Rattle.model.proofs.Decide.{Decides, holding, failing, decides-le, lowest-within, greatest-within}
 use Rattle.model.proofs.Soundness.{decides-sound}
 use Rattle.events.specs.JobList.{jobsOf, agrees}
 use Rattle.events.specs.Events.{answerNumbers, keptQuestions, ownQuestions, answer, listAfter}
@@ -48,16 +47,7 @@ active-few p t e few =
     (λ h. rw (list-refused p t e h) few)
     (admitted-or-not (answer p t e))
 
--- a search over 1 to n finds one of them or says 0
-lowest-within : (n : ℕ) (f : ℕ → Bool) → lowest n f ≤ n
-lowest-within zero f = omega arith
-lowest-within (suc n) f = step (lowest-within n f) (eqb (lowest n f) 0) (f (suc n))
-  where
-    step : lowest n f ≤ n → (none passes : Bool) → cond none (cond passes 0 (suc n)) (lowest n f) ≤ suc n
-    step h true true = omega arith
-    step h true false = omega arith
-    step h false passes = omega arith
-
+-- what a search up to a small count finds
 lowest-small : (n : ℕ) (f : ℕ → Bool) → n < 100 → lowest n f < 100
 lowest-small n f h = omega (arith, lowest-within n f)
 

@@ -6,19 +6,20 @@ use native.Mathlib.Omega.{arith}
 use mathlib.Core.Bool.{Bool, true, cond}
 use mathlib.Core.List.{List, [], _∷_, _++_}
 use mathlib.Core.Logic.{_⊎_, inl, inr, ⊎-elim}
-use mathlib.Core.Path.{_≡_, refl, ap, ap₂, _∙_}
+use mathlib.Core.Path.{_≡_, refl, ap, ap₂, subst⁻¹, _∙_}
 use lib.Dec.{leb}
 use lib.ListN.{replicate}
 use borrow.Author.Tests.{le-leb}
 use Rattle.model.specs.Limits.{maxResources, maxRows}
-use Rattle.model.specs.Numbers.{InRange, entry, at, sumTo, lowest, greatest, Split}
+use Rattle.model.specs.Numbers.{InRange, entry, at, sumTo, lowest, greatest, Each, Split}
 use Rattle.model.specs.Plan.{noStage, lengthOf, IsStage, isStage, stageOf, demandOf, weightOf}
-use Rattle.model.specs.Jobs.{overJobs, exceeded, worstRow, broken, advancedJob, advancedAt}
+use Rattle.model.specs.Jobs.{overJobs, RowTest, exceeded, worstRow, broken, advancedJob, advancedAt, AtStage}
 use Rattle.model.specs.Soundness.{Sound}
 use Rattle.model.specs.declared.Plan.{Plan}
 use Rattle.model.specs.declared.Stage.{Stage}
 use Rattle.model.specs.declared.Job.{Job}
 use Rattle.model.proofs.Decide.{Decides, holding, failing, decides-range, _and_}
+use Rattle.model.proofs.Jobs.{row-test}
 use Rattle.model.proofs.Lists.{replicated, every-each}
 use Rattle.model.proofs.Sums.{over-jobs-append, over-jobs-moved, over-jobs-removed, over-jobs-zero}
 use Rattle.events.specs.Events.{keptAnswer}
@@ -139,6 +140,10 @@ module _ (p : Plan) (sound : Sound p) where
       unfolding sumsOf worstRow
       worst-exchanged =
           greatest-after maxRows (p .rows) (weightOf p) (old .weight) (new .weight) (p .bound) (sound .rows) (e .rows) weight-beyond
+
+      -- so it says of the jobs afterwards what the row test says as worded
+      pub row-tested : Each (AtStage p) next → let r = worstAfter (sumsOf p js) old new (ceilingsOf p) in RowTest p next (r .row) (r .excess)
+      row-tested staged = subst⁻¹ (λ (r : WorstRow). RowTest p next (r .row) (r .excess)) worst-exchanged (row-test p next staged)
 
       pub kept-exchanged : keptAfter (sumsOf p js) old new (ceilingsOf p) ≡ keptAnswer (exceeded p next) (broken p next)
       unfolding keptAfter sumsOf exceeded
