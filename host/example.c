@@ -1,4 +1,4 @@
-/* A host in C: it reads a plan, checks it, moves jobs, pulls one and drains the cell. Argument: an input of `cellmoves`, whose plan it takes. */
+/* A host in C: it reads a plan, writes it, checks it, moves jobs, pulls one and drains the cell. Argument: an input of `cellmoves`, whose plan it takes. */
 #include "rilthoss.h"
 
 #include <inttypes.h>
@@ -40,6 +40,11 @@ int main(int argc, char **argv)
 
     printf("the same plan in a cell of %d bytes:\n", RILTHOSS_CELL);
     tell("read the plan", rilthoss_read_plan(cell, sizeof cell, input, plan_length(length)));
+    uint64_t written = rilthoss_write_plan(cell, sizeof cell, output, RILTHOSS_TEXT);
+    tell("write the plan", written);
+    int same = rilthoss_place(written) == plan_length(length) && memcmp(input, output, plan_length(length)) == 0;
+    printf("the text written is %sthe one read\n", same ? "" : "not ");
+    tell("no room", rilthoss_write_plan(cell, sizeof cell, output, plan_length(length) - 1));
     tell("check", rilthoss_check(cell, sizeof cell));
     tell("load 7, type 1", rilthoss_load(cell, sizeof cell, 7, 1));
     tell("load 8, type 2", rilthoss_load(cell, sizeof cell, 8, 2));

@@ -31,7 +31,7 @@ extern "C" {
 /* An output of rilthoss_run has never more bytes. */
 #define RILTHOSS_ENOUGH 491526
 
-/* An answer: its number, and its place or count. */
+/* An answer: its number, and its place, count or length. */
 static inline unsigned rilthoss_number(uint64_t answer) { return (unsigned)(answer & 0xffff); }
 static inline uint32_t rilthoss_place(uint64_t answer) { return (uint32_t)(answer >> 32); }
 static inline unsigned rilthoss_second_place(uint64_t answer) { return (unsigned)(answer >> 16 & 0xffff); }
@@ -42,6 +42,15 @@ static inline unsigned rilthoss_second_place(uint64_t answer) { return (unsigned
 /* Reads a plan text into the cell in place of its plan; the jobs stay. Number: 0 accepted, or 1 to 7; place: the line that a refusal is
  * about, 0 for 1. A refused text puts the empty plan there. */
 uint64_t rilthoss_read_plan(uint8_t *cell, size_t cell_length, const uint8_t *text, size_t text_length);
+
+/* No text that is read or written has more bytes. In a space of so many, 9 of a whole cell says that the plan's text is too long for any. */
+#define RILTHOSS_TEXT 65536
+
+/* Writes the cell's plan as text, in its one spelling: the records in order of their sections and keys, no leading zeros, no comments, no empty
+ * lines. Number: 0 written, 11, or 9 if the text is longer than the space or than RILTHOSS_TEXT bytes; place: the length of the text. A refusal
+ * has length 0 and changes no byte; otherwise the space begins with the text and is unchanged after it. The spelling of a text that was
+ * accepted is never longer than that text. */
+uint64_t rilthoss_write_plan(const uint8_t *cell, size_t cell_length, uint8_t *space, size_t space_length);
 
 /* The upstream check of the cell's plan. Number: 0 the plan meets the upstream rule, or 11, 21 to 25; place: for 22 the type, and the second
  * place its stage; for 24 and 25 the row. */

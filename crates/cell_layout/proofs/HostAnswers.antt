@@ -1,17 +1,18 @@
 -- What is answered and written at bytes enough for a cell, and at too few.
 use Prim.Native.Nat.{ℕ, _≤_, _<_}
-use mathlib.Core.Bool.{true, false}
+use mathlib.Core.Bool.{false}
 use mathlib.Core.List.{List}
-use mathlib.Core.Path.{_≡_, refl, ap}
+use mathlib.Core.Path.{_≡_, refl}
 use lib.ListN.{length}
 use borrow.Author.Tests.{lt-ltb, le-ltb}
 use Rattle.model.specs.Upstream.{check}
 use Rattle.events.specs.Events.{isAdmitted, listAfter}
 use Rattle.events.specs.declared.Event.{Event}
 use Rattle.events.specs.declared.Answer.the-variants.{Admitted}
+use Rattle.plan_spelling.specs.Writing.{writing, spaceAfter}
 use Rattle.cell_layout.specs.Layout.{cellSize, planIn, listIn, withPlan, withList}
 use Rattle.cell_layout.specs.HostAnswers.{packedCheck, packedAnswer, packedDrain, cellAnswer, cellDrain, noCell, readAnswer, readCell, checkAnswer}
-use Rattle.cell_layout.specs.HostAnswers.{eventAnswer, eventCell, drainAnswer, drainCell}
+use Rattle.cell_layout.specs.HostAnswers.{packedWriting, writeAnswer, writtenSpace, eventAnswer, eventCell, drainAnswer, drainCell}
 use Rattle.cell_layout.proofs.Cells.{is-cell, no-cell}
 
 -- too few bytes
@@ -19,6 +20,10 @@ module _ (bytes : List ℕ) (h : length bytes < cellSize) where
   pub no-read : (text : List ℕ) → (noCell ≡ readAnswer text bytes) × (bytes ≡ readCell text bytes)
   unfolding readAnswer readCell withPlan
   no-read text = (rw (no-cell bytes h) refl, rw (no-cell bytes h) refl)
+
+  pub no-write : (space : List ℕ) → (noCell ≡ writeAnswer bytes space) × (space ≡ writtenSpace bytes space)
+  unfolding writeAnswer writtenSpace
+  no-write space = (rw (no-cell bytes h) refl, rw (no-cell bytes h) refl)
 
   pub no-check : noCell ≡ checkAnswer bytes
   unfolding checkAnswer
@@ -34,6 +39,11 @@ module _ (bytes : List ℕ) (h : length bytes < cellSize) where
 
 -- enough of them
 module _ (bytes : List ℕ) (h : cellSize ≤ length bytes) where
+  pub plan-written : (space : List ℕ)
+      → (packedWriting (writing (planIn bytes) space) ≡ writeAnswer bytes space) × (spaceAfter (planIn bytes) space ≡ writtenSpace bytes space)
+  unfolding writeAnswer writtenSpace
+  plan-written space = (rw (is-cell bytes h) refl, rw (is-cell bytes h) refl)
+
   pub checked : packedCheck (check (planIn bytes)) ≡ checkAnswer bytes
   unfolding checkAnswer
   checked = rw (is-cell bytes h) refl

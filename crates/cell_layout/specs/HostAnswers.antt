@@ -1,7 +1,7 @@
 -- What each function of the library answers, and what lies in the host's bytes afterwards. Bytes too few for a cell are answered 9 before
 -- all else, and stay as they are.
 use Prim.Native.Nat.{ℕ, _+_, _*_}
-use mathlib.Core.Bool.{Bool, cond, _&&_}
+use mathlib.Core.Bool.{cond, _&&_}
 use mathlib.Core.List.{List, [], _∷_}
 use lib.Dec.{ltb, eqb}
 use Rattle.model.specs.Upstream.{checkNumbers, check}
@@ -14,10 +14,12 @@ use Rattle.events.specs.declared.ListDrained.{ListDrained}
 use Rattle.plan_text.specs.TextQuestions.{textNumber}
 use Rattle.plan_text.specs.Reading.{reading}
 use Rattle.plan_text.specs.declared.Reading.{Reading}
+use Rattle.plan_spelling.specs.Writing.{writeNumber, writing, spaceAfter}
+use Rattle.plan_spelling.specs.declared.Writing.{Writing}
 use Rattle.cell_layout.specs.Layout.{isCell, planIn, listIn, withPlan, withList}
 
--- an answer of 64 bits: the published number in the lowest 16, the second place in the next 16, and the first place, the line or the
--- moves made in the highest 32
+-- an answer of 64 bits: the published number in the lowest 16, the second place in the next 16, and the first place, the line, the
+-- length or the moves made in the highest 32
 abbrev pub packed : ℕ → ℕ → ℕ → ℕ
 packed number first second = number + 65536 * second + 4294967296 * first
 
@@ -33,6 +35,16 @@ readAnswer text bytes = cond (isCell bytes) (packedReading (reading text)) noCel
 
 unfoldable pub readCell : List ℕ → List ℕ → List ℕ
 readCell text bytes = withPlan (reading text .plan) bytes
+
+-- the plan is written into a space: the answer and the length, and the space afterwards
+abbrev pub packedWriting : Writing → ℕ
+packedWriting w = packed (writeNumber (w .answer)) (w .length) 0
+
+unfoldable pub writeAnswer : List ℕ → List ℕ → ℕ
+writeAnswer bytes space = cond (isCell bytes) (packedWriting (writing (planIn bytes) space)) noCell
+
+unfoldable pub writtenSpace : List ℕ → List ℕ → List ℕ
+writtenSpace bytes space = cond (isCell bytes) (spaceAfter (planIn bytes) space) space
 
 -- the upstream check of the plan, with its two places
 abbrev pub packedCheck : Check → ℕ

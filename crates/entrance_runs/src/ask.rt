@@ -1,4 +1,5 @@
 // What is asked of the entrances, and of the row test beneath them, and written, each number after a tab. Each function hands back the table afterwards.
+use crate::spell::write_dotted;
 use crate::table::first_stage;
 use crate::table::jobs;
 use crate::table::loaded;
@@ -15,6 +16,7 @@ use parts::Ceilings;
 use plan_numbers::check_first;
 use plan_numbers::check_number;
 use plan_numbers::check_second;
+use plan_numbers::write_number;
 use soundness::is_sound;
 use sums::sums_of;
 use sums::worst_row;
@@ -105,6 +107,17 @@ fn rows(p: Plan, t: Table) -> Table {
     t
 }
 
+// The plan written into so many bytes: the answer, the length, and how many bytes of a larger space were changed.
+fn spelling(p: Plan, t: Table, room: u32) -> Table {
+    let s = write_dotted(p, room as usize);
+    let writing = s.writing;
+    let answer = writing.answer;
+    short(write_number(answer));
+    number(writing.length as u64);
+    number(s.changed as u64);
+    t
+}
+
 // Its answer; is its table the one that it was asked of?
 fn is_same_after(p: Plan, t: Table, letter: u8, job: u32) -> bool {
     let o = outcome(p, t, letter, job, 1);
@@ -147,7 +160,7 @@ fn list(p: Plan, t: Table, letters: &[u8], x: u32, y: u32, z: u32, w: u32) -> Ta
     ran.table
 }
 
-// l job type; a job; u job; x job; d budget; m jobs; r and the letters of events, then two jobs and two types.
+// l job type; a job; u job; x job; d budget; p bytes; m jobs; r and the letters of events, then two jobs and two types.
 pub(crate) fn asked(
     p: Plan,
     t: Table,
@@ -166,6 +179,7 @@ pub(crate) fn asked(
         b'e' => entrances(p, t),
         b'r' => list(p, t, line, x, y, z, w),
         b'w' => rows(p, t),
+        b'p' => spelling(p, t, x),
         b'f' => stage(t),
         b':' => text(line, t),
         b'=' | b'+' => next_text(line, t),

@@ -5,13 +5,14 @@
 //   E              empties both               >      keeps both
 //   =              ends the line of output, takes back what was kept, and writes the rest of its line
 //   +              the same, but goes on from what is set    :      only writes the rest of its line
-//   l a u x d q e w r  ask, in ask.rt         m      loads many jobs    f      the stage of the earliest loaded
+//   l a u x d q e w p r  ask, in ask.rt       m      loads many jobs    f      the stage of the earliest loaded
 //
 // Nothing is asked of what is set: a number is taken modulo what its field holds, and an index modulo its array. A missing
 // number is 0, and a line with another letter does nothing. Input beyond 65,536 bytes is not read.
 mod ask;
 mod line;
 mod plan;
+mod spell;
 mod table;
 
 use admission::Table;

@@ -28,6 +28,20 @@ pub fn entry_of(xs: &[u8], number: u32) -> u32
     xs[place] as u32
 }
 
+// The bound of a row; 0 where there is none.
+pub fn bound_of(bounds: &[u16], row: u32) -> u32
+    ensures { λ r. ⌜ r ≡ at (now (bounds .entry)) row ⌝ }
+{
+    if row < 1 {
+        return 0;
+    }
+    let place = position(row);
+    if bounds.len() <= place {
+        return 0;
+    }
+    bounds[place] as u32
+}
+
 // The list with x for the entry, and as it was where that is beyond its last; 0 counts as 1.
 pub fn put_entry(xs: &mut [u8], number: u32, x: u8)
     ensures { λ _. ⌜ now (xs .exit) ≡ put (now (xs .entry)) number x ⌝ }

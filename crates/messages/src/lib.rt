@@ -3,7 +3,7 @@ ghost use mathlib.Core.Path.{_≡_};
 ghost use mathlib.Core.List.{map};
 ghost use Prim.Native.Nat.{_≤_};
 ghost use lib.ListN.{length};
-ghost use Rattle.moves_text.specs.Message.{visible, shownAfter, messageWith, message};
+ghost use Rattle.moves_text.specs.Message.{visible, shownAfter, messageWith, textMessage, message};
 ghost use Rattle.moves_text.specs.Space.{overlaid, overlaidAt};
 use input_lines::plan_length;
 use meanings::put_meaning;
@@ -62,14 +62,10 @@ fn put_message(line: u32, answer: TextAnswer, part: &[u8], space: &mut [u8]) -> 
     n + put_shown(part, space, n)
 }
 
-// As much as fits of what a person is told of the input's plan, and the length of all of it; nothing of an accepted plan.
-pub fn refusal_message(input: &[u8], space: &mut [u8]) -> usize
-    ensures { λ r. ⌜ (r ≡ length (message (now (input .entry)))) × (now (space .exit) ≡ overlaid (message (now (input .entry))) (now (space .entry))) ⌝ }
+// As much as fits of what a person is told of a plan text, and the length of all of it; nothing of an accepted one.
+pub fn text_message(text: &[u8], space: &mut [u8]) -> usize
+    ensures { λ r. ⌜ (r ≡ length (textMessage (now (text .entry)))) × (now (space .exit) ≡ overlaid (textMessage (now (text .entry))) (now (space .entry))) ⌝ }
 {
-    if 65536 < input.len() {
-        return put_message(0, TextAnswer::TooLong, part_of(input, 0, 0), space);
-    }
-    let text = part_of(input, 0, plan_length(input));
     let reading = read(text);
     let answer = reading.answer;
     if text_number(answer) == 0 {
@@ -81,4 +77,14 @@ pub fn refusal_message(input: &[u8], space: &mut [u8]) -> usize
         part_of(text, reading.from, reading.to),
         space,
     )
+}
+
+// The same of the plan in an input of `cellmoves`.
+pub fn refusal_message(input: &[u8], space: &mut [u8]) -> usize
+    ensures { λ r. ⌜ (r ≡ length (message (now (input .entry)))) × (now (space .exit) ≡ overlaid (message (now (input .entry))) (now (space .entry))) ⌝ }
+{
+    if 65536 < input.len() {
+        return put_message(0, TextAnswer::TooLong, part_of(input, 0, 0), space);
+    }
+    text_message(part_of(input, 0, plan_length(input)), space)
 }

@@ -6,7 +6,7 @@ use native.Mathlib.Numerals.{sub-one, add-one}
 use native.Mathlib.Omega.{arith}
 use mathlib.Core.Bool.{Bool, cond, _&&_, and-true, and-assoc}
 use mathlib.Core.List.{List, [], _∷_}
-use mathlib.Core.Logic.{⊎-elim}
+use mathlib.Core.Logic.{_⊎_, inl, inr, ⊎-elim}
 use mathlib.Core.Path.{_≡_, refl, sym, ap, _∙_}
 use lib.Dec.{leb}
 use lib.ListN.{length, drop, getD, length-drop}
@@ -18,7 +18,7 @@ use Rattle.model.specs.Plan.{noStage, lengthOf, IsStage, isStage, allSta
 use Rattle.model.specs.Soundness.{Sound}
 use Rattle.model.specs.declared.Plan.{Plan}
 use Rattle.model.specs.declared.Stage.{Stage}
-use Rattle.model.proofs.Decide.{decided, decides-le, decides-range, passes}
+use Rattle.model.proofs.Decide.{Decides, holding, failing, decided, decides-le, decides-range, passes, _and_}
 use Rattle.model.proofs.Lists.{entry-there}
 
 pub all-cong : (n : ℕ) (f g : ℕ → Bool) → ((i : ℕ) → InRange i n → f i ≡ g i) → allTo n f ≡ allTo n g
@@ -106,6 +106,15 @@ module _ (p : Plan) where
   pub stage-at : (t k : ℕ) → IsStage p t k → stageOf p t k ≡ entry (p .stages) (flatIndex (lengthOf p) t k) noStage
   unfolding stageOf isStage
   stage-at t k h = rw (passes (decides-range t (p .types)) (h .0), passes (decides-range k (lengthOf p t)) (h .1)) refl
+
+  -- there is a stage, or none is read
+  pub stage-cases : (t k : ℕ) → IsStage p t k ⊎ (stageOf p t k ≡ noStage)
+  unfolding stageOf isStage
+  stage-cases t k = go (decides-range t (p .types) and decides-range k (lengthOf p t))
+    where
+      go : {b : Bool} → Decides (IsStage p t k) b → IsStage p t k ⊎ (cond b (entry (p .stages) (flatIndex (lengthOf p) t k) noStage) noStage ≡ noStage)
+      go (holding h) = inl h
+      go (failing h) = inr refl
 
   pub stages-flat : (f : ℕ → ℕ → Bool) (g : ℕ → Bool) → ((t k : ℕ) → IsStage p t k → f t k ≡ g (flatIndex (lengthOf p) t k))
       → allTo (p .types) (λ t. allTo (lengthOf p t) (f t)) ≡ allTo (allStages p) g

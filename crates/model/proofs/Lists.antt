@@ -7,7 +7,7 @@ use mathlib.Core.Logic.{_⊎_, inl, inr}
 use mathlib.Core.Path.{_≡_, refl, ap}
 use mathlib.Core.List.{List, [], _∷_, _++_, map}
 use lib.ListN.{length, take, getD, replicate}
-use Rattle.model.specs.Numbers.{Each, Split}
+use Rattle.model.specs.Numbers.{at, Each, Split}
 use Rattle.model.proofs.Decide.{decides-le, decided}
 
 module _ {A : Type 0} (P : A → Type 0) where
@@ -74,6 +74,11 @@ pub replicated : {A : Type 0} (n i : ℕ) (d : A) → getD (replicate n d) i d �
 replicated zero i d = refl
 replicated (suc n) zero d = refl
 replicated (suc n) (suc i) d = replicated n i d
+
+-- counted from 1, of zeros
+pub zeros-at : (n i : ℕ) → at (replicate n 0) i ≡ 0
+zeros-at n zero = refl
+zeros-at n (suc i) = replicated n i 0
 
 -- an entry that a list has is the same whatever would stand for one that it lacks
 pub entry-there : {A : Type 0} (xs : List A) (i : ℕ) (d e : A) → i < length xs → getD xs i d ≡ getD xs i e

@@ -21,6 +21,10 @@ pub sum-cong : (n : ℕ) {g h : ℕ → ℕ} → ((i : ℕ) → g i ≡ h i) →
 sum-cong zero e = refl
 sum-cong (suc n) {g} {h} e = omega (arith, sum-cong n {g = g} {h = h} e, e (suc n))
 
+pub sum-mono : (f g : ℕ → ℕ) → ((i : ℕ) → f i ≤ g i) → (n : ℕ) → sumTo n f ≤ sumTo n g
+sum-mono f g h zero = omega arith
+sum-mono f g h (suc n) = omega (arith, sum-mono f g h n, h (suc n))
+
 sum-add : (n : ℕ) (g h : ℕ → ℕ) → sumTo n (λ (i : ℕ). g i + h i) ≡ sumTo n g + sumTo n h
 sum-add zero g h = omega arith
 sum-add (suc n) g h = omega (arith, sum-add n g h)

@@ -1,12 +1,12 @@
 -- The input's two parts are those that the mark divides: a text is its lines put together, so by induction over them either a
 -- line is the mark, or it comes before both parts of what follows.
-use Prim.Native.Nat.{ℕ, suc, _+_, _-_, _≤_}
+use Prim.Native.Nat.{ℕ, suc, _+_, _-_}
 use native.Mathlib.Omega.{arith}
 use mathlib.Core.Bool.{Bool, true, false, cond, false≢true}
 use mathlib.Core.List.{List, [], _∷_, _++_, append-assoc}
 use mathlib.Core.Logic.{_≢_, inl, inr}
 use mathlib.Core.Path.{_≡_, refl, sym, ap, _∙_}
-use lib.ListN.{length, take, drop, length-drop, drop-of-length-le}
+use lib.ListN.{length, take, drop, drop-of-length-le}
 use lib.Seq.{take-all, take-append-add, drop-append-add}
 use borrow.Author.Tests.{eqb-true}
 use Rattle.model.specs.Numbers.{Each}
@@ -24,7 +24,7 @@ abbrev ended : List ℕ → Line
 ended p = record { bytes = p; ended = true }
 
 -- the first line of a text, and those after it
-lines-then : (p rest : List ℕ) → Clean p → linesOf (p ++ lineEnd ∷ rest) ≡ ended p ∷ linesOf rest
+pub lines-then : (p rest : List ℕ) → Clean p → linesOf (p ++ lineEnd ∷ rest) ≡ ended p ∷ linesOf rest
 lines-then p rest clean = ap linesIn (split-then lineEnd p rest clean) ∙ line-then p (splitBy lineEnd rest) (split-some lineEnd rest)
 
 lines-alone : (p : List ℕ) → Clean p → linesOf p ≡ lastLine p

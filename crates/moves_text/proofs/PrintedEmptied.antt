@@ -18,9 +18,8 @@ use Rattle.events.specs.declared.JobList.{JobList}
 use Rattle.emptying.specs.Run.{State, run, listAfterAll, answers}
 use Rattle.emptying.specs.Emptying.{start, EmptyingRule}
 use Rattle.emptying.proofs.Emptying.{emptying-passed}
-use Rattle.plan_text.specs.TextQuestions.{maxText, textNumber}
+use Rattle.plan_text.specs.TextQuestions.{maxText, textNumber, isAccepted}
 use Rattle.plan_text.specs.Reading.{reading}
-use Rattle.plan_text.specs.ReaderParts.{isAccepted}
 use Rattle.plan_text.specs.declared.TextAnswer.{TextAnswer}
 use Rattle.plan_text.specs.declared.TextAnswer.the-variants.{Accepted, TooLong, BadLine, BadLetter, BadFields, OutOfRange, Repeated, Incomplete}
 use Rattle.plan_text.specs.declared.Reading.{Reading}

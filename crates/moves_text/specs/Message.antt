@@ -5,12 +5,10 @@ use mathlib.Core.List.{List, [], _∷_, _++_, map}
 use lib.Dec.{leb}
 use lib.ListN.{length}
 use Rattle.plan_text.specs.Lines.{isPlain}
-use Rattle.plan_text.specs.TextQuestions.{maxText, shownIn}
-use Rattle.plan_text.specs.Reading.{refused, reading}
-use Rattle.plan_text.specs.ReaderParts.{isAccepted}
+use Rattle.plan_text.specs.TextQuestions.{maxText, shownIn, isAccepted}
+use Rattle.plan_text.specs.Reading.{reading}
 use Rattle.plan_text.specs.declared.TextAnswer.{TextAnswer}
 use Rattle.plan_text.specs.declared.TextAnswer.the-variants.{Accepted, TooLong, BadLine, BadLetter, BadFields, OutOfRange, Repeated, Incomplete}
-use Rattle.plan_text.specs.declared.Reading.{Reading}
 use Rattle.moves_text.specs.Quoted.{quoted}
 use Rattle.moves_text.specs.Written.{decimal}
 use Rattle.moves_text.specs.Division.{planPart}
@@ -38,10 +36,11 @@ shownAfter (b ∷ bs) = quoted ": " ++ map visible (b ∷ bs) ++ quoted "\n"
 abbrev pub messageWith : ℕ → TextAnswer → List ℕ → List ℕ
 messageWith line answer shown = quoted "line " ++ decimal line ++ quoted ": " ++ meaning answer ++ shownAfter shown
 
--- the reading that the `P` line tells of
-abbrev pub readingIn : List ℕ → Reading
-readingIn input = cond (leb (length input) maxText) (reading (planPart input)) (refused TooLong 0 0 0)
+-- of a plan text; nothing is said of an accepted one
+abbrev pub textMessage : List ℕ → List ℕ
+textMessage text =
+    let r = reading text in cond (isAccepted (r .answer)) [] (messageWith (r .line) (r .answer) (shownIn text r))
 
--- nothing is said of an accepted plan
+-- of the plan in an input, as the `P` line tells of it
 unfoldable pub message : List ℕ → List ℕ
-message input = let r = readingIn input in cond (isAccepted (r .answer)) [] (messageWith (r .line) (r .answer) (shownIn (planPart input) r))
+message input = cond (leb (length input) maxText) (textMessage (planPart input)) (messageWith 0 TooLong [])

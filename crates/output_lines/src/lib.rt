@@ -10,7 +10,8 @@ ghost use Rattle.moves_text.specs.Space.{overlaid, overlaidAt};
 use bytes::copy;
 use io::decimal;
 
-fn at_most(n: usize, limit: usize) -> usize
+// The lower of the two: where in a space a place is that may be beyond it.
+pub fn at_most(n: usize, limit: usize) -> usize
     ensures { λ r. ⌜ r ≡ min n limit ⌝ }
 {
     if limit < n { limit } else { n }

@@ -33,7 +33,7 @@ module _ (lengths : List ℕ) (types t k : ℕ) where
   index-there low h = rw (passes is-stage ((at-named lengths t (omega arith), low), h)) refl
 
 -- what stands there in a plan
-module _ (p : Plan) (whole : length (p .stages) ≡ maxAllStages) (t k : ℕ) where
+module _ (p : Plan) (t k : ℕ) where
   abbrev number : ℕ
   number = sumTo (t - 1) (lengthOf p) + k
 
@@ -45,6 +45,10 @@ module _ (p : Plan) (whole : length (p .stages) ≡ maxAllStages) (t k : ℕ) wh
       go s zero h = absurd (omega arith)
       go s (suc k) h = let e : s + suc k ≡ suc (s + (suc k - 1)) = omega arith in rw e refl
 
+  pub stage-named : IsStage p t k → stageOf p t k ≡ getD (p .stages) (stageIndex (p .lengths) t k) noStage
+  stage-named h = flat.stage-at p t k h ∙ entry-index (h .1 .0)
+
+module _ (p : Plan) (whole : length (p .stages) ≡ maxAllStages) (t k : ℕ) where
   abbrev index : ℕ
   index = indexIn (p .lengths) (p .types) t k
 
@@ -54,10 +58,10 @@ module _ (p : Plan) (whole : length (p .stages) ≡ maxAllStages) (t k : ℕ) wh
     where
       Same : Bool → Type 0
       Same b =
-          cond b (entry (p .stages) number noStage) noStage ≡ getD (p .stages) (cond b (stageIndex (p .lengths) t k) maxAllStages) noStage
+          cond b (entry (p .stages) (number p t k) noStage) noStage ≡ getD (p .stages) (cond b (stageIndex (p .lengths) t k) maxAllStages) noStage
 
       go : {b : Bool} → Decides (IsStage p t k) b → Same b
-      go (holding h) = entry-index (h .1 .0)
+      go (holding h) = entry-index p t k (h .1 .0)
       go (failing h) = sym (List·getD-eq-default (p .stages) noStage (omega arith))
 
   module _ (i : ℕ) (here : i ≡ index) where

@@ -1,26 +1,27 @@
 -- Exchanging one stage for another in the sums over the jobs gives the sums over the jobs afterwards. The tests go over all
 -- 32 entries: beyond the counts of a sound plan nothing is demanded and nothing weighed, so they name what the definitions
 -- name within the counts, the lowest of the units and the greatest of the rows. The sums are stated over the amount, so they are one case.
-use Prim.Native.Nat.{ℕ, zero, suc, _+_, _-_, _≤_, _<_}
+use Prim.Native.Nat.{ℕ, _+_, _-_, _≤_, _<_}
 use native.Mathlib.Omega.{arith}
-use mathlib.Core.Bool.{Bool, true, cond}
+use mathlib.Core.Bool.{true}
 use mathlib.Core.List.{List, [], _∷_, _++_}
-use mathlib.Core.Logic.{_⊎_, inl, inr, ⊎-elim}
+use mathlib.Core.Logic.{_⊎_, ⊎-elim}
 use mathlib.Core.Path.{_≡_, refl, ap, ap₂, subst⁻¹, _∙_}
 use lib.Dec.{leb}
 use lib.ListN.{replicate}
 use borrow.Author.Tests.{le-leb}
 use Rattle.model.specs.Limits.{maxResources, maxRows}
-use Rattle.model.specs.Numbers.{InRange, entry, at, sumTo, lowest, greatest, Each, Split}
-use Rattle.model.specs.Plan.{noStage, lengthOf, IsStage, isStage, stageOf, demandOf, weightOf}
+use Rattle.model.specs.Numbers.{InRange, at, lowest, greatest, Each, Split}
+use Rattle.model.specs.Plan.{noStage, stageOf, demandOf, weightOf}
 use Rattle.model.specs.Jobs.{overJobs, RowTest, exceeded, worstRow, broken, advancedJob, advancedAt, AtStage}
 use Rattle.model.specs.Soundness.{Sound}
 use Rattle.model.specs.declared.Plan.{Plan}
 use Rattle.model.specs.declared.Stage.{Stage}
 use Rattle.model.specs.declared.Job.{Job}
-use Rattle.model.proofs.Decide.{Decides, holding, failing, decides-range, _and_}
+use Rattle.model.proofs.Decide.{_and_}
+use Rattle.model.proofs.Flat.{stage-cases}
 use Rattle.model.proofs.Jobs.{row-test}
-use Rattle.model.proofs.Lists.{replicated, every-each}
+use Rattle.model.proofs.Lists.{zeros-at, every-each}
 use Rattle.model.proofs.Sums.{over-jobs-append, over-jobs-moved, over-jobs-removed, over-jobs-zero}
 use Rattle.events.specs.Events.{keptAnswer}
 use Rattle.parts.specs.Parts.{tabulate, sumsOf, ceilingsOf, lowestAfter, greatestAfter, worstAfter, keptAfter}
@@ -28,11 +29,6 @@ use Rattle.parts.specs.declared.Sums.{Sums}
 use Rattle.parts.specs.declared.Ceilings.{Ceilings}
 use Rattle.parts.specs.declared.WorstRow.{WorstRow}
 use Rattle.parts.proofs.FixedWidth.{at-tabulate, lowest-lanes, greatest-lanes}
-
--- no amount where there is no stage
-nothing : (n i : ℕ) → at (replicate n 0) i ≡ 0
-nothing n zero = refl
-nothing n (suc i) = replicated n i 0
 
 -- the amounts of the jobs afterwards are those of the jobs now with the old given back and the new taken
 abbrev Exchanged : (ℕ → ℕ → ℕ) → List Job → List Job → ℕ → ℕ → Type 0
@@ -48,11 +44,11 @@ module _ (p : Plan) (js : List Job) where
   none-exchanged = record { units = λ r. none (demandOf p r) r; rows = λ w. none (weightOf p w) w }
     where
       none : (f : ℕ → ℕ → ℕ) (i : ℕ) → Exchanged f js js (at (replicate 32 0) i) (at (replicate 32 0) i)
-      none f i = rw (nothing 32 i) (refl, omega arith)
+      none f i = rw (zeros-at 32 i) (refl, omega arith)
 
   module _ (j : Job) (new : Stage) (stage : new ≡ stageOf p (j .kind) (j .stage)) where
     added : (f : ℕ → ℕ → ℕ) (i n : ℕ) → n ≡ f (j .kind) (j .stage) → Exchanged f js (js ++ j ∷ []) (at (replicate 32 0) i) n
-    added f i n e = rw (nothing 32 i, e) (omega (arith, over-jobs-append f js (j ∷ [])), omega arith)
+    added f i n e = rw (zeros-at 32 i, e) (omega (arith, over-jobs-append f js (j ∷ [])), omega arith)
 
     pub added-exchanged : Exchange p js (js ++ j ∷ []) noStage new
     unfolding demandOf weightOf
@@ -81,23 +77,15 @@ module _ (p : Plan) (js : List Job) where
           }
 
 module _ (p : Plan) (sound : Sound p) where
-  stage-cases : (t k : ℕ) → IsStage p t k ⊎ (stageOf p t k ≡ noStage)
-  unfolding stageOf isStage
-  stage-cases t k = go (decides-range t (p .types) and decides-range k (lengthOf p t))
-    where
-      go : {b : Bool} → Decides (IsStage p t k) b → IsStage p t k ⊎ (cond b (entry (p .stages) (sumTo (t - 1) (lengthOf p) + k) noStage) noStage ≡ noStage)
-      go (holding h) = inl h
-      go (failing h) = inr refl
-
   demand-beyond : (r : ℕ) → p .resources < r → (t k : ℕ) → demandOf p r t k ≡ 0
   unfolding demandOf
   demand-beyond r h t k =
-      ⊎-elim (λ s. sound .stages t k s .no-more-demands r h) (λ e. ap (λ (s : Stage). at (s .demand) r) e ∙ nothing 32 r) (stage-cases t k)
+      ⊎-elim (λ s. sound .stages t k s .no-more-demands r h) (λ e. ap (λ (s : Stage). at (s .demand) r) e ∙ zeros-at 32 r) (stage-cases p t k)
 
   weight-beyond : (w : ℕ) → p .rows < w → (t k : ℕ) → weightOf p w t k ≡ 0
   unfolding weightOf
   weight-beyond w h t k =
-      ⊎-elim (λ s. sound .stages t k s .no-more-weights w h) (λ e. ap (λ (s : Stage). at (s .weight) w) e ∙ nothing 32 w) (stage-cases t k)
+      ⊎-elim (λ s. sound .stages t k s .no-more-weights w h) (λ e. ap (λ (s : Stage). at (s .weight) w) e ∙ zeros-at 32 w) (stage-cases p t k)
 
   module _ (js next : List Job) where
     -- m entries of which those beyond the count n are nothing

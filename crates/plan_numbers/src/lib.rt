@@ -1,9 +1,11 @@
-// The published number and places of each answer of the upstream check, and the number of each answer to a plan text, for whoever
-// prints them.
+// The published number and places of each answer of the upstream check, and the number of each answer to a plan text and to the writing of
+// one, for whoever prints them.
 ghost use mathlib.Core.Path.{_≡_};
 ghost use Rattle.model.specs.Upstream.{checkNumbers};
 ghost use Rattle.plan_text.specs.TextQuestions.{textNumber};
+ghost use Rattle.plan_spelling.specs.Writing.{writeNumber};
 use model::Check;
+use plan_spelling::WriteAnswer;
 use plan_text::TextAnswer;
 
 pub fn check_number(c: Check) -> u32
@@ -63,5 +65,16 @@ pub fn text_number(a: TextAnswer) -> u32
         TextAnswer::OutOfRange => 5,
         TextAnswer::Repeated => 6,
         TextAnswer::Incomplete => 7,
+    }
+}
+
+// Of a plan that is written.
+pub fn write_number(a: WriteAnswer) -> u32
+    ensures { λ r. ⌜ r ≡ writeNumber a ⌝ }
+{
+    match a {
+        WriteAnswer::Written => 0,
+        WriteAnswer::NoRoom => 9,
+        WriteAnswer::UnsoundPlan => 11,
     }
 }

@@ -1,7 +1,7 @@
 -- Questions 2 to 4 of a line: the tests decide what is asked. The fields are counted as they are read, so the count is theirs
 -- exactly when each is a number, and the numbers that a record does not have stay 0.
-use Prim.Native.Nat.{ℕ, zero, suc, _+_, _≤_, _<_}
-use native.Mathlib.Nat.{add-zero, zero-add}
+use Prim.Native.Nat.{ℕ, zero, suc, _+_, _-_, _*_, _^_, _≤_, _<_}
+use native.Mathlib.Nat.{add-zero, zero-add, pow-succ'}
 use native.Mathlib.Numerals.{add-one}
 use native.Mathlib.Omega.{arith}
 use mathlib.Core.Bool.{Bool, true, false, cond, _&&_, _||_, false≢true}
@@ -15,7 +15,7 @@ use Rattle.model.specs.Numbers.{Each, each}
 use Rattle.model.proofs.Decide.{Decides, holding, failing, passes, decides-iff, decides-eq, decides-le, decides-lt, decides-range}
 use Rattle.model.proofs.Decide.{decides-or, decides-each, _and_}
 use Rattle.plan_text.specs.Lines.{Line, tab, isSkipped, isPlain, parts, letterIn, fieldsIn}
-use Rattle.plan_text.specs.Records.{sections, sectionOf, layoutOf, IsNumber, isNumber, numberOn, fieldsOn, fieldsRead, noNumbers}
+use Rattle.plan_text.specs.Records.{sections, sectionOf, layoutOf, Digit, IsNumber, isNumber, numberOn, fieldsOn, fieldsRead, noNumbers}
 use Rattle.plan_text.specs.Records.{recordWith, noRecord, recordIn}
 use Rattle.plan_text.specs.TextQuestions.{WellFormed, Follows}
 use Rattle.plan_text.specs.Reading.{follows}
@@ -44,6 +44,16 @@ decides-follows last section =
 -- 4: fields read after n others
 pub decides-number : (bs : List ℕ) → Decides (IsNumber bs) (isNumber bs)
 decides-number bs = decides-range (length bs) 5 and decides-each (λ b. decides-le 48 b and decides-le b 57) bs
+
+-- a number of i digits is below 10 ^ i
+pub digit-below : (i x d : ℕ) → x < 10 ^ i → d ≤ 9 → 10 * x + d < 10 ^ (i + 1)
+digit-below i x d h k = let e : 10 ^ (i + 1) ≡ 10 * 10 ^ i = rw add-one (pow-succ' 10 i) in omega arith
+
+pub number-below : (bs : List ℕ) (i x : ℕ) → Each Digit bs → x < 10 ^ i → numberOn x bs < 10 ^ (i + length bs)
+number-below [] i x h k = let e : i + 0 ≡ i = omega arith in rw e k
+number-below (b ∷ bs) i x h k =
+    let e : i + suc (length bs) ≡ i + 1 + length bs = omega arith in
+    rw e (number-below bs (i + 1) (10 * x + (b - 48)) (h .1) (digit-below i x (b - 48) k (omega (arith, h .0))))
 
 fields-counted : (n : ℕ) (xs : List ℕ) (fs : List (List ℕ)) → Each IsNumber fs → n + length fs ≤ 4 → fieldsOn n xs fs .count ≡ n + length fs
 fields-counted n xs [] h few = sym (add-zero n)
@@ -84,6 +94,27 @@ numbers-after n xs (f ∷ fs) size few h =
 
 pub numbers-told : (fs : List (List ℕ)) → length fs ≤ 4 → Each IsNumber fs → take (length fs) (fieldsRead fs .numbers) ≡ map (numberOn 0) fs
 numbers-told fs few h = let e : 0 + length fs ≡ length fs = omega arith in rw e at (numbers-after 0 noNumbers fs refl (omega arith) h)
+
+-- there are four of them, whatever is read
+fields-four : (n : ℕ) (xs : List ℕ) (fs : List (List ℕ)) → length xs ≡ 4 → length (fieldsOn n xs fs .numbers) ≡ 4
+fields-four n xs [] h = h
+fields-four n xs (f ∷ fs) h = go (fields-four (n + 1) _ fs (length-set xs n (numberOn 0 f) ∙ h)) (isNumber f && ltb n 4)
+  where
+    go : length (fieldsOn (n + 1) (set xs n (numberOn 0 f)) fs .numbers) ≡ 4
+        → (b : Bool) → length (cond b (fieldsOn (n + 1) (set xs n (numberOn 0 f)) fs) (record { count = 5; numbers = xs }) .numbers) ≡ 4
+    go rest true = rest
+    go rest false = h
+
+four-entries : (xs : List ℕ) → length xs ≡ 4 → getD xs 0 0 ∷ getD xs 1 0 ∷ getD xs 2 0 ∷ getD xs 3 0 ∷ [] ≡ xs
+four-entries [] h = absurd (omega arith)
+four-entries (a ∷ []) h = absurd (omega arith)
+four-entries (a ∷ b ∷ []) h = absurd (omega arith)
+four-entries (a ∷ b ∷ c ∷ []) h = absurd (omega arith)
+four-entries (a ∷ b ∷ c ∷ d ∷ []) h = refl
+four-entries (a ∷ b ∷ c ∷ d ∷ e ∷ xs) h = absurd (omega arith)
+
+pub numbers-four : (fs : List (List ℕ)) → let xs = fieldsRead fs .numbers in getD xs 0 0 ∷ getD xs 1 0 ∷ getD xs 2 0 ∷ getD xs 3 0 ∷ [] ≡ xs
+numbers-four fs = four-entries (fieldsRead fs .numbers) (fields-four 0 noNumbers fs refl)
 
 -- no section has more than four
 pub few-fields : (section : ℕ) → length (layoutOf section) ≤ 4

@@ -23,7 +23,8 @@ use Rattle.plan_text.specs.Lines.{Line}
 use Rattle.plan_text.specs.Records.{Known, knownOf, recordIn, InRanges, inRanges}
 use Rattle.plan_text.specs.Written.{Draft, put, indexIn, entriesAfter, boundedAfter, stageAfter, written, heldIn, changed}
 use Rattle.plan_text.specs.Reading.{refused, formQuestions, withinTotal, recordQuestions, ofLine, readFrom}
-use Rattle.plan_text.specs.ReaderParts.{isAccepted, formAnswer, recordAnswer, narrowed, countsAfter, headAfter, draftWith, knownWith}
+use Rattle.plan_text.specs.TextQuestions.{isAccepted}
+use Rattle.plan_text.specs.ReaderParts.{formAnswer, recordAnswer, narrowed, countsAfter, headAfter, draftWith, knownWith}
 use Rattle.plan_text.specs.Meaning.{line}
 use Rattle.plan_text.specs.declared.Record.{Record}
 use Rattle.plan_text.specs.declared.Counts.{Counts}

@@ -1,15 +1,16 @@
--- What records say of a plan, and that they say it whole: two lists of records, taken one by one and complete, with the same
--- records have the same plan, since every entry is told by the records.
+-- What records say of a plan, and that they say it whole: two sound plans that the same records say are equal, since every entry is
+-- told by the records.
 use Prim.Native.Nat.{ℕ, zero, suc, _+_, _-_, _≤_, _<_}
 use native.Mathlib.Numerals.{sub-one}
 use native.Mathlib.Omega.{arith}
 use mathlib.Core.List.{List}
-use mathlib.Core.Logic.{_⊎_, inl, inr, ⊎-elim, _↔_}
-use mathlib.Core.Path.{_≡_, refl, sym, ap, _∙_}
+use mathlib.Core.Logic.{⊎-elim, _↔_}
+use mathlib.Core.Path.{_≡_, refl, sym, ap, subst, _∙_}
 use lib.ListN.{length, getD}
 use lib.Seq.{ext-getD}
 use Rattle.model.specs.Numbers.{InRange, at, sumTo}
-use Rattle.model.specs.Plan.{noStage, boundOf, lengthOf, IsStage, allStages, stageOf, demandOf, weightOf}
+use Rattle.model.specs.Plan.{noStage, capacityOf, rankOf, boundOf, lengthOf, IsStage, allStages, stageOf, demandOf, weightOf}
+use Rattle.model.specs.Soundness.{ZeroBeyond, Sound}
 use Rattle.model.specs.declared.Plan.{Plan}
 use Rattle.model.proofs.Decide.{decided, decides-eq, decides-le}
 use Rattle.plan_text.specs.Lines.{linesOf}
@@ -17,13 +18,12 @@ use Rattle.plan_text.specs.Records.{Has}
 use Rattle.plan_text.specs.Written.{draftOf, planOf}
 use Rattle.plan_text.specs.TextQuestions.{textNumber, recordsOf, Complete}
 use Rattle.plan_text.specs.Reading.{reading}
-use Rattle.plan_text.specs.Meaning.{line, Says, SameRecords}
+use Rattle.plan_text.specs.Meaning.{line, R, T, S, A, K, Says, Sized, SameRecords}
 use Rattle.plan_text.specs.declared.Record.{Record}
-use Rattle.plan_text.specs.declared.Reading.{Reading}
 use Rattle.plan_text.proofs.StageWritten.{stage-here}
-use Rattle.plan_text.proofs.Kept.{Entry, Place, Half, demandHalf, weightHalf, InPlace, Kept}
+use Rattle.plan_text.proofs.Kept.{Kept}
 use Rattle.plan_text.proofs.Completeness.{complete-bounds, counted-section}
-use Rattle.plan_text.proofs.AcceptedText.{accepted-whole}
+use Rattle.plan_text.proofs.AcceptedText.{accepted-whole, accepted-sound}
 
 -- a row of the plan has its bound
 marked : (rs : List Record) (kept : Kept rs (draftOf rs)) → Complete rs → (w : ℕ) → InRange w (planOf rs .rows) → at (draftOf rs .bounded) w ≡ 1
@@ -34,7 +34,10 @@ pub records-say : (rs : List Record) → Kept rs (draftOf rs) → Complete rs �
 unfolding demandOf weightOf
 records-say rs kept c =
     record {
-      counts = kept .counted (counted-section rs (draftOf rs) kept (c .counts));
+      counts = λ i j l. (
+        λ e. subst (Has rs) (λ z. line 1 (e .0 z) (e .1 z) (e .2 z) 0) (kept .counted (counted-section rs (draftOf rs) kept (c .counts))),
+        λ has. let e = kept .one-count i j l has in (sym (e .0), sym (e .1), sym (e .2)),
+      );
       capacities = λ r v h. (λ e. kept .capacities r v .0 (h, e), λ has. kept .capacities r v .1 has .1);
       lengths = λ t v h. (λ e. kept .lengths t v .0 (h, e), λ has. kept .lengths t v .1 has .1);
       demands = λ t k r v h. (λ e. kept .demands (t, k, r) v .0 (h, e), λ has. kept .demands (t, k, r) v .1 has .1);
@@ -62,7 +65,7 @@ module _ (len : ℕ → ℕ) where
       (decided (decides-le (suc i) (sumTo n len)))
 
 -- one value, and two, told by the same records
-told : (x y : ℕ) → ((v : ℕ) → 1 ≤ v → x ≡ v → y ≡ v) → ((v : ℕ) → 1 ≤ v → y ≡ v → x ≡ v) → x ≡ y
+pub told : (x y : ℕ) → ((v : ℕ) → 1 ≤ v → x ≡ v → y ≡ v) → ((v : ℕ) → 1 ≤ v → y ≡ v → x ≡ v) → x ≡ y
 told x y there back =
     ⊎-elim
     (λ (e : x ≡ 0).
@@ -70,56 +73,69 @@ told x y there back =
     (λ (ne : ¬ (x ≡ 0)). sym (there x (omega (arith, ne)) refl))
     (decided (decides-eq x 0))
 
+-- entries of two lists that are all 0
+zeros : (xs ys : List ℕ) → ZeroBeyond 0 xs → ZeroBeyond 0 ys → (i : ℕ) → at xs i ≡ at ys i
+zeros xs ys none nothing zero = refl
+zeros xs ys none nothing (suc i) = none (suc i) (omega arith) ∙ sym (nothing (suc i) (omega arith))
+
 -- lists are equal whose entries, counted from 1, are
 lists-equal : (xs ys : List ℕ) → length xs ≡ length ys → ((i : ℕ) → at xs i ≡ at ys i) → xs ≡ ys
 lists-equal xs ys size same = ext-getD 0 xs ys size (λ i h. same (suc i))
 
-module _ (rs qs : List Record) (kept : Kept rs (draftOf rs)) (keeps : Kept qs (draftOf qs)) (full : Complete rs) (filled : Complete qs)
-    (same : SameRecords rs qs) where
-  abbrev p : Plan
-  p = planOf rs
+-- two sound plans that the same records say
+module _ (rs : List Record) (p q : Plan) (sized : Sized p) (as-sized : Sized q) (sound : Sound p) (as-sound : Sound q) (says : Says rs p)
+    (too : Says rs q) where
+  counts-told : (p .resources ≡ q .resources) × (p .types ≡ q .types) × (p .rows ≡ q .rows)
+  counts-told = says .counts _ _ _ .1 (too .counts _ _ _ .0 (refl, refl, refl))
 
-  abbrev q : Plan
-  q = planOf qs
-
-  entries-told : (n : ℕ) (xs ys : List ℕ) → ((i v : ℕ) → Entry xs i v ↔ Has rs (line n i v 0 0)) → ((i v : ℕ) → Entry ys i v ↔ Has qs (line n i v 0 0))
-      → (i : ℕ) → at xs i ≡ at ys i
-  entries-told n xs ys held holds i =
-      told (at xs i) (at ys i) (λ v h e. holds i v .1 (same (line n i v 0 0) .0 (held i v .0 (h, e))) .1)
-      (λ v h e. held i v .1 (same (line n i v 0 0) .1 (holds i v .0 (h, e))) .1)
-
-  places-told : (h : Half) → ((k : Place) (v : ℕ) → InPlace h p k v ↔ Has rs (h .of k v)) → ((k : Place) (v : ℕ) → InPlace h q k v ↔ Has qs (h .of k v))
-      → (t k i : ℕ) → at (h .part (stageOf p t k)) i ≡ at (h .part (stageOf q t k)) i
-  places-told h held holds t k i =
-      told _ _ (λ v a e. holds (t, k, i) v .1 (same (h .of (t, k, i) v) .0 (held (t, k, i) v .0 (a, e))) .1)
-      (λ v a e. held (t, k, i) v .1 (same (h .of (t, k, i) v) .1 (holds (t, k, i) v .0 (a, e))) .1)
+  -- a value under each key
+  entries-told : {K : Type 0} (of : K → ℕ → Record) (f g : K → ℕ) → ((i : K) (v : ℕ) → 1 ≤ v → (f i ≡ v) ↔ Has rs (of i v))
+      → ((i : K) (v : ℕ) → 1 ≤ v → (g i ≡ v) ↔ Has rs (of i v)) → (i : K) → f i ≡ g i
+  entries-told of f g held holds i =
+      told (f i) (g i) (λ v h e. holds i v h .1 (held i v h .0 e)) (λ v h e. held i v h .1 (holds i v h .0 e))
 
   bounds-told : (w : ℕ) → boundOf p w ≡ boundOf q w
-  bounds-told w = go (kept .flags w) (keeps .flags w)
-    where
-      go : (at (draftOf rs .bounded) w ≡ 1) ⊎ ((at (draftOf rs .bounded) w ≡ 0) × (boundOf p w ≡ 0))
-          → (at (draftOf qs .bounded) w ≡ 1) ⊎ ((at (draftOf qs .bounded) w ≡ 0) × (boundOf q w ≡ 0)) → boundOf p w ≡ boundOf q w
-      go (inl m) b = sym (keeps .bounds w (boundOf p w) .1 (same _ .0 (kept .bounds w (boundOf p w) .0 (m, refl))) .1)
-      go (inr z) (inl m) = kept .bounds w (boundOf q w) .1 (same _ .1 (keeps .bounds w (boundOf q w) .0 (m, refl))) .1
-      go (inr z) (inr y) = z .1 ∙ sym (y .1)
-
-  counts-told : (p .resources ≡ q .resources) × (p .types ≡ q .types) × (p .rows ≡ q .rows)
-  counts-told = keeps .one-count _ _ _ (same _ .0 (kept .counted (counted-section rs (draftOf rs) kept (full .counts))))
+  bounds-told zero = refl
+  bounds-told (suc w) =
+      ⊎-elim
+      (λ (h : suc w ≤ p .rows).
+      let within : suc w ≤ q .rows = omega (arith, counts-told .2) in
+      says .bounds (suc w) (boundOf q (suc w)) (omega arith, h) .1 (too .bounds (suc w) (boundOf q (suc w)) (omega arith, within) .0 refl))
+      (λ (h : ¬ (suc w ≤ p .rows)). sound .no-more-bounds (suc w) (omega arith) ∙ sym (as-sound .no-more-bounds (suc w) (omega (arith, counts-told .2))))
+      (decided (decides-le (suc w) (p .rows)))
 
   lengths-told : p .lengths ≡ q .lengths
-  lengths-told = lists-equal _ _ (kept .sizes .lengths ∙ sym (keeps .sizes .lengths)) (entries-told 3 _ _ (kept .lengths) (keeps .lengths))
+  lengths-told = lists-equal _ _ (sized .lengths ∙ sym (as-sized .lengths)) (entries-told T (lengthOf p) (lengthOf q) (says .lengths) (too .lengths))
 
   total-told : allStages p ≡ allStages q
   unfolding allStages
   total-told = ap (λ n. sumTo n (at (p .lengths))) (counts-told .1) ∙ ap (λ xs. sumTo (q .types) (at xs)) lengths-told
 
-  -- the stage at an index of the first plan and of the second
+  -- what the stages of the two plans demand and weigh
+  demand-told : (t k r : ℕ) → demandOf p r t k ≡ demandOf q r t k
+  demand-told t k r = entries-told (λ (i : ℕ) v. S t k i v) (λ i. demandOf p i t k) (λ i. demandOf q i t k) (says .demands t k) (too .demands t k) r
+
+  weight-told : (t k w : ℕ) → weightOf p w t k ≡ weightOf q w t k
+  weight-told t k w =
+      entries-told (λ (i : ℕ) v. A i t k v) (λ i. weightOf p i t k) (λ i. weightOf q i t k) (λ i. says .weights i t k) (λ i. too .weights i t k) w
+
+  -- the stage at an index of the first plan and of the second: lists of the same size with the same entries
+  stage-same : (i : ℕ) → let s = getD (p .stages) i noStage in let z = getD (q .stages) i noStage in
+      ((j : ℕ) → at (s .demand) j ≡ at (z .demand) j) → ((j : ℕ) → at (s .weight) j ≡ at (z .weight) j) → s ≡ z
+  stage-same i demands weights =
+      let demand = lists-equal _ _ (sized .demand i ∙ sym (as-sized .demand i)) demands in
+      let weight = lists-equal _ _ (sized .weight i ∙ sym (as-sized .weight i)) weights in
+      λ j. record { demand = demand j; weight = weight j }
+
   stage-told : (i : ℕ) → getD (p .stages) i noStage ≡ getD (q .stages) i noStage
-  unfolding allStages
+  unfolding allStages demandOf weightOf
   stage-told i = ⊎-elim here past (decided (decides-le (suc i) (allStages p)))
     where
       past : ¬ (suc i ≤ allStages p) → getD (p .stages) i noStage ≡ getD (q .stages) i noStage
-      past h = kept .beyond i (omega arith) ∙ sym (keeps .beyond i (omega (arith, total-told, h)))
+      past h =
+          let none = sound .no-more-stages (suc i) (omega arith) in
+          let nothing = as-sound .no-more-stages (suc i) (omega (arith, total-told, h)) in
+          stage-same i (zeros _ _ (none .0) (nothing .0)) (zeros _ _ (none .1) (nothing .1))
 
       here : suc i ≤ allStages p → getD (p .stages) i noStage ≡ getD (q .stages) i noStage
       here h =
@@ -130,24 +146,19 @@ module _ (rs qs : List Record) (kept : Kept rs (draftOf rs)) (keeps : Kept qs (d
           let longest = ap (λ xs. at xs t) lengths-told in
           let yours : IsStage q t k = ((found .2 .0, omega (arith, found .2, counts-told .1)), (found .3 .0, omega (arith, found .3, longest))) in
           let left : stageOf p t k ≡ getD (p .stages) i noStage =
-          stage-here p t k mine (kept .total) (kept .sizes .stages) noStage ∙ ap (λ j. getD (p .stages) j noStage) (found .4) in
+          stage-here p t k mine (sound .total) (sized .stages) noStage ∙ ap (λ j. getD (p .stages) j noStage) (found .4) in
           let index : sumTo (t - 1) (lengthOf q) + (k - 1) ≡ i = ap (λ xs. sumTo (t - 1) (at xs) + (k - 1)) (sym lengths-told) ∙ found .4 in
           let right : stageOf q t k ≡ getD (q .stages) i noStage =
-          stage-here q t k yours (keeps .total) (keeps .sizes .stages) noStage ∙ ap (λ j. getD (q .stages) j noStage) index in
-          let demand = lists-equal (getD (p .stages) i noStage .demand) (getD (q .stages) i noStage .demand)
-          (kept .sizes .demand i ∙ sym (keeps .sizes .demand i))
-          (λ j. ap (λ s. at (s .demand) j) (sym left) ∙ places-told demandHalf (kept .demands) (keeps .demands) t k j ∙ ap (λ s. at (s .demand) j) right) in
-          let weight = lists-equal (getD (p .stages) i noStage .weight) (getD (q .stages) i noStage .weight)
-          (kept .sizes .weight i ∙ sym (keeps .sizes .weight i))
-          (λ j. ap (λ s. at (s .weight) j) (sym left) ∙ places-told weightHalf (kept .weights) (keeps .weights) t k j ∙ ap (λ s. at (s .weight) j) right) in
-          λ j. record { demand = demand j; weight = weight j }
+          stage-here q t k yours (as-sound .total) (as-sized .stages) noStage ∙ ap (λ j. getD (q .stages) j noStage) index in
+          stage-same i (λ j. ap (λ s. at (s .demand) j) (sym left) ∙ demand-told t k j ∙ ap (λ s. at (s .demand) j) right)
+          (λ j. ap (λ s. at (s .weight) j) (sym left) ∙ weight-told t k j ∙ ap (λ s. at (s .weight) j) right)
 
-  pub plans-equal : p ≡ q
-  plans-equal =
-      let capacity = lists-equal _ _ (kept .sizes .capacity ∙ sym (keeps .sizes .capacity)) (entries-told 2 _ _ (kept .capacities) (keeps .capacities)) in
-      let rank = lists-equal _ _ (kept .sizes .rank ∙ sym (keeps .sizes .rank)) (entries-told 7 _ _ (kept .ranks) (keeps .ranks)) in
-      let bound = lists-equal _ _ (kept .sizes .bound ∙ sym (keeps .sizes .bound)) bounds-told in
-      let stages = ext-getD noStage (p .stages) (q .stages) (kept .sizes .stages ∙ sym (keeps .sizes .stages)) (λ i h. stage-told i) in
+  pub says-whole : p ≡ q
+  says-whole =
+      let capacity = lists-equal _ _ (sized .capacity ∙ sym (as-sized .capacity)) (entries-told R (capacityOf p) (capacityOf q) (says .capacities) (too .capacities)) in
+      let rank = lists-equal _ _ (sized .rank ∙ sym (as-sized .rank)) (entries-told K (rankOf p) (rankOf q) (says .ranks) (too .ranks)) in
+      let bound = lists-equal _ _ (sized .bound ∙ sym (as-sized .bound)) bounds-told in
+      let stages = ext-getD noStage (p .stages) (q .stages) (sized .stages ∙ sym (as-sized .stages)) (λ i h. stage-told i) in
       λ i. record {
         resources = counts-told .0 i;
         types = counts-told .1 i;
@@ -159,18 +170,46 @@ module _ (rs qs : List Record) (kept : Kept rs (draftOf rs)) (keeps : Kept qs (d
         stages = stages i;
       }
 
+-- what is said with some records is said with the same records in another list
+says-as : (rs qs : List Record) (p : Plan) → SameRecords rs qs → Says rs p → Says qs p
+says-as rs qs p same says =
+    record {
+      counts = λ a b c. through (says .counts a b c) (same _);
+      capacities = λ r v h. through (says .capacities r v h) (same _);
+      lengths = λ t v h. through (says .lengths t v h) (same _);
+      demands = λ t k r v h. through (says .demands t k r v h) (same _);
+      bounds = λ w v within. through (says .bounds w v within) (same _);
+      weights = λ w t k v h. through (says .weights w t k v h) (same _);
+      ranks = λ r v h. through (says .ranks r v h) (same _);
+    }
+  where
+    through : {P Q R : Type 0} → P ↔ Q → Q ↔ R → P ↔ R
+    through a b = (λ x. b .0 (a .0 x), λ x. a .1 (b .1 x))
+
 module _ (text : List ℕ) (zero-answered : textNumber (reading text .answer) ≡ 0) where
   -- an accepted text says its plan
   pub accepted-says : Says (recordsOf (linesOf text)) (reading text .plan)
   accepted-says = let w = accepted-whole text zero-answered in rw (w .handed) (records-say _ (w .kept) (w .complete))
 
-  -- two accepted texts with the same records have the same plan: the order within a section, comments, empty lines and leading
-  -- zeros do not matter
-  pub same-records-same-plan : (other : List ℕ) → textNumber (reading other .answer) ≡ 0
-      → SameRecords (recordsOf (linesOf text)) (recordsOf (linesOf other)) → reading text .plan ≡ reading other .plan
-  same-records-same-plan other answered same =
+  pub accepted-sized : Sized (reading text .plan)
+  accepted-sized =
       let w = accepted-whole text zero-answered in
-      let v = accepted-whole other answered in
-      ap (λ (a : Reading). a .plan) (w .handed)
-      ∙ plans-equal _ _ (w .kept) (v .kept) (w .complete) (v .complete) same
-      ∙ sym (ap (λ (a : Reading). a .plan) (v .handed))
+      let sizes = w .kept .sizes in
+      rw (w .handed)
+      (record {
+        capacity = sizes .capacity;
+        rank = sizes .rank;
+        bound = sizes .bound;
+        lengths = sizes .lengths;
+        stages = sizes .stages;
+        demand = sizes .demand;
+        weight = sizes .weight;
+      })
+
+-- two accepted texts with the same records have the same plan: the order within a section, comments, empty lines and leading
+-- zeros do not matter
+pub same-records-same-plan : (text other : List ℕ) → textNumber (reading text .answer) ≡ 0 → textNumber (reading other .answer) ≡ 0
+    → SameRecords (recordsOf (linesOf text)) (recordsOf (linesOf other)) → reading text .plan ≡ reading other .plan
+same-records-same-plan text other taken answered same =
+    says-whole (recordsOf (linesOf other)) _ _ (accepted-sized text taken) (accepted-sized other answered) (accepted-sound text taken)
+    (accepted-sound other answered) (says-as _ _ _ same (accepted-says text taken)) (accepted-says other answered)

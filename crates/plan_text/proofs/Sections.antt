@@ -1,7 +1,8 @@
 -- Records by their section: what holds of a record of each section with any numbers holds of every record of the text.
 use Prim.Native.Nat.{ℕ, zero, suc}
 use native.Mathlib.Omega.{arith}
-use mathlib.Core.Path.{_≡_}
+use mathlib.Core.Logic.{_≢_}
+use mathlib.Core.Path.{_≡_, refl}
 use lib.ListN.{length, drop}
 use Rattle.model.specs.Numbers.{InRange, Each}
 use Rattle.plan_text.specs.Records.{sections, layoutOf, numbersOf}
@@ -23,6 +24,19 @@ one-of-seven P a b c d e f g (suc (suc (suc (suc (suc zero))))) h = e
 one-of-seven P a b c d e f g (suc (suc (suc (suc (suc (suc zero)))))) h = f
 one-of-seven P a b c d e f g (suc (suc (suc (suc (suc (suc (suc zero))))))) h = g
 one-of-seven P a b c d e f g (suc (suc (suc (suc (suc (suc (suc (suc n)))))))) h = absurd (omega arith)
+
+-- what holds at 0 and above 7 holds of each number that is no section's
+pub none-of-seven : (P : ℕ → Type 0) → P 0 → ((n : ℕ) → P (suc (suc (suc (suc (suc (suc (suc (suc n))))))))) → (n : ℕ) → n ≢ 1 → n ≢ 2 → n ≢ 3 → n ≢ 4
+    → n ≢ 5 → n ≢ 6 → n ≢ 7 → P n
+none-of-seven P low high zero c r t d b a k = low
+none-of-seven P low high (suc zero) c r t d b a k = absurd (c refl)
+none-of-seven P low high (suc (suc zero)) c r t d b a k = absurd (r refl)
+none-of-seven P low high (suc (suc (suc zero))) c r t d b a k = absurd (t refl)
+none-of-seven P low high (suc (suc (suc (suc zero)))) c r t d b a k = absurd (d refl)
+none-of-seven P low high (suc (suc (suc (suc (suc zero))))) c r t d b a k = absurd (b refl)
+none-of-seven P low high (suc (suc (suc (suc (suc (suc zero)))))) c r t d b a k = absurd (a refl)
+none-of-seven P low high (suc (suc (suc (suc (suc (suc (suc zero))))))) c r t d b a k = absurd (k refl)
+none-of-seven P low high (suc (suc (suc (suc (suc (suc (suc (suc n)))))))) c r t d b a k = high n
 
 -- the numbers that a record's section does not have are 0
 abbrev pub Blank : Record → Type 0

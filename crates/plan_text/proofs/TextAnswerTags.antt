@@ -5,7 +5,7 @@ use mathlib.Core.List.{List, [], _∷_}
 use mathlib.Core.Path.{_≡_, refl}
 use types.Run.{OneOf, miss}
 use denote.Enum.Declared.{tagOf}
-use Rattle.plan_text.specs.ReaderParts.{isAccepted}
+use Rattle.plan_text.specs.TextQuestions.{isAccepted}
 use Rattle.plan_text.specs.declared.TextAnswer.{TextAnswer}
 use Rattle.plan_text.specs.declared.TextAnswer.the-variants.{Accepted, TooLong, BadLine, BadLetter, BadFields, OutOfRange, Repeated, Incomplete}
 use Rattle.plan_text.proofs.TextAnswer.{the-type}

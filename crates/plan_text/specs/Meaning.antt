@@ -5,8 +5,10 @@ use Prim.Native.Nat.{ℕ, _≤_}
 use mathlib.Core.List.{List}
 use mathlib.Core.Logic.{_↔_}
 use mathlib.Core.Path.{_≡_}
+use lib.ListN.{length, getD}
+use Rattle.model.specs.Limits.{maxResources, maxTypes, maxRows, maxAllStages}
 use Rattle.model.specs.Numbers.{InRange}
-use Rattle.model.specs.Plan.{capacityOf, rankOf, boundOf, lengthOf, demandOf, weightOf}
+use Rattle.model.specs.Plan.{noStage, capacityOf, rankOf, boundOf, lengthOf, demandOf, weightOf}
 use Rattle.model.specs.declared.Plan.{Plan}
 use Rattle.plan_text.specs.Records.{Has}
 use Rattle.plan_text.specs.declared.Record.{Record}
@@ -38,13 +40,23 @@ abbrev pub K : ℕ → ℕ → Record
 K resource rank = line 7 resource rank 0 0
 
 pub record Says (rs : List Record) (p : Plan) : Type 0 where
-  pub counts : Has rs (C (p .resources) (p .types) (p .rows))
+  pub counts : (a b c : ℕ) → ((p .resources ≡ a) × (p .types ≡ b) × (p .rows ≡ c)) ↔ Has rs (C a b c)
   pub capacities : (r v : ℕ) → 1 ≤ v → (capacityOf p r ≡ v) ↔ Has rs (R r v)
   pub lengths : (t v : ℕ) → 1 ≤ v → (lengthOf p t ≡ v) ↔ Has rs (T t v)
   pub demands : (t k r v : ℕ) → 1 ≤ v → (demandOf p r t k ≡ v) ↔ Has rs (S t k r v)
   pub bounds : (w v : ℕ) → InRange w (p .rows) → (boundOf p w ≡ v) ↔ Has rs (B w v)
   pub weights : (w t k v : ℕ) → 1 ≤ v → (weightOf p w t k ≡ v) ↔ Has rs (A w t k v)
   pub ranks : (r v : ℕ) → 1 ≤ v → (rankOf p r ≡ v) ↔ Has rs (K r v)
+
+-- as many entries as the arrays of a plan have: of every plan that a program holds
+pub record Sized (p : Plan) : Type 0 where
+  pub capacity : length (p .capacity) ≡ maxResources
+  pub rank : length (p .rank) ≡ maxResources
+  pub bound : length (p .bound) ≡ maxRows
+  pub lengths : length (p .lengths) ≡ maxTypes
+  pub stages : length (p .stages) ≡ maxAllStages
+  pub demand : (i : ℕ) → length (getD (p .stages) i noStage .demand) ≡ maxResources
+  pub weight : (i : ℕ) → length (getD (p .stages) i noStage .weight) ≡ maxRows
 
 -- the same records, in whatever order and however often
 abbrev pub SameRecords : List Record → List Record → Type 0

@@ -1,7 +1,7 @@
 -- What the parts of the reader compute, each under one name. No promise rests on these: the reader's contract is an equation
 -- with `reading`.
 use Prim.Native.Nat.{ℕ, _%_}
-use mathlib.Core.Bool.{Bool, cond}
+use mathlib.Core.Bool.{cond}
 use mathlib.Core.List.{List, [], _∷_}
 use lib.Dec.{eqb}
 use Rattle.model.specs.Questions.{ask, answerOf}
@@ -10,7 +10,7 @@ use Rattle.model.specs.declared.Plan.{Plan}
 use Rattle.plan_text.specs.Lines.{Line}
 use Rattle.plan_text.specs.Records.{Known, isNumber, numberOn, noRecord, recordIn, inRanges}
 use Rattle.plan_text.specs.Written.{Draft, changed}
-use Rattle.plan_text.specs.TextQuestions.{textNumber}
+use Rattle.plan_text.specs.TextQuestions.{isAccepted}
 use Rattle.plan_text.specs.Reading.{formQuestions, withinTotal}
 use Rattle.plan_text.specs.declared.Record.{Record}
 use Rattle.plan_text.specs.declared.Form.{Form}
@@ -18,9 +18,6 @@ use Rattle.plan_text.specs.declared.Counts.{Counts}
 use Rattle.plan_text.specs.declared.Head.{Head}
 use Rattle.plan_text.specs.declared.TextAnswer.{TextAnswer}
 use Rattle.plan_text.specs.declared.TextAnswer.the-variants.{Accepted, OutOfRange, Repeated}
-
-abbrev pub isAccepted : TextAnswer → Bool
-isAccepted a = eqb (textNumber a) 0
 
 -- the number of a field; 100000, which 5 digits never say, where it is none
 abbrev pub noNumber : ℕ

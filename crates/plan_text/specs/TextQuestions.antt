@@ -1,10 +1,11 @@
 -- The questions 1 to 7 of document 01 as they are worded: what is asked, and what a refusal says. The first failing line
 -- decides, and in it the first failing question; 7 is asked after the last line.
 use Prim.Native.Nat.{ℕ, _+_, _-_, _≤_}
-use mathlib.Core.Bool.{true, false, cond}
+use mathlib.Core.Bool.{Bool, true, false, cond}
 use mathlib.Core.List.{List, [], _∷_, _++_}
 use mathlib.Core.Logic.{_≢_, _⊎_}
 use mathlib.Core.Path.{_≡_}
+use lib.Dec.{eqb}
 use lib.ListN.{length, take, drop}
 use Rattle.model.specs.Limits.{maxAllStages}
 use Rattle.model.specs.Numbers.{InRange, Each}
@@ -33,6 +34,9 @@ textNumber BadFields = 4
 textNumber OutOfRange = 5
 textNumber Repeated = 6
 textNumber Incomplete = 7
+
+abbrev pub isAccepted : TextAnswer → Bool
+isAccepted a = eqb (textNumber a) 0
 
 -- the part of the text that a reading shows
 abbrev pub shownIn : List ℕ → Reading → List ℕ

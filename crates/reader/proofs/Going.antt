@@ -19,7 +19,8 @@ use Rattle.plan_text.specs.Lines.{Line, lineEnd, linesOf}
 use Rattle.plan_text.specs.Records.{Known, knownOf, recordIn, inRanges}
 use Rattle.plan_text.specs.Written.{Draft, emptyDraft, written, heldIn}
 use Rattle.plan_text.specs.Reading.{refused, accepted, withinTotal, isComplete, readFrom}
-use Rattle.plan_text.specs.ReaderParts.{isAccepted, formAnswer, recordAnswer}
+use Rattle.plan_text.specs.TextQuestions.{isAccepted}
+use Rattle.plan_text.specs.ReaderParts.{formAnswer, recordAnswer}
 use Rattle.plan_text.specs.declared.Record.{Record}
 use Rattle.plan_text.specs.declared.TextAnswer.{TextAnswer}
 use Rattle.plan_text.specs.declared.TextAnswer.the-variants.{Accepted, OutOfRange, Repeated, Incomplete}

@@ -1,18 +1,18 @@
 -- The number that digits say: what is left to read after those at hand, and how large it is, digit by digit.
-use Prim.Native.Nat.{ℕ, suc, _+_, _-_, _*_, _^_, _≤_, _<_}
-use native.Mathlib.Nat.{pow-succ', pow-le-pow-right}
+use Prim.Native.Nat.{ℕ, _+_, _-_, _*_, _^_, _≤_, _<_}
+use native.Mathlib.Nat.{pow-le-pow-right}
 use native.Mathlib.Numerals.{add-one}
 use native.Mathlib.Omega.{arith}
 use mathlib.Core.Bool.{Bool, true, false, cond}
-use mathlib.Core.List.{List, [], _∷_}
+use mathlib.Core.List.{List, _∷_}
 use mathlib.Core.Path.{_≡_, refl, _∙_}
 use lib.ListN.{length, drop, getD, drop-of-length-le}
 use lib.Seq.{drop-cons}
-use Rattle.model.specs.Numbers.{Each, each}
+use Rattle.model.specs.Numbers.{each}
 use Rattle.model.proofs.Decide.{Decides, holding, failing}
-use Rattle.plan_text.specs.Records.{Digit, IsNumber, isDigit, isNumber, numberOn}
+use Rattle.plan_text.specs.Records.{IsNumber, isDigit, isNumber, numberOn}
 use Rattle.plan_text.specs.ReaderParts.{noNumber, numberRead}
-use Rattle.plan_text.proofs.LineForm.{decides-number}
+use Rattle.plan_text.proofs.LineForm.{decides-number, number-below}
 
 -- the number of digits after those of x
 abbrev pub readOn : ℕ → List ℕ → ℕ
@@ -31,18 +31,9 @@ module _ (bs : List ℕ) (i x : ℕ) where
   pub digits-end : length bs ≤ i → readOn x (drop i bs) ≡ x
   digits-end h = rw (drop-of-length-le bs {i = i}) refl
 
--- a number of i digits is below 10 ^ i
-pub digit-below : (i x d : ℕ) → x < 10 ^ i → d ≤ 9 → 10 * x + d < 10 ^ (i + 1)
-digit-below i x d h k = let e : 10 ^ (i + 1) ≡ 10 * 10 ^ i = rw add-one (pow-succ' 10 i) in omega arith
-
+-- five digits never say so much
 pub digits-small : (i x : ℕ) → x < 10 ^ i → i ≤ 5 → x < noNumber
 digits-small i x h k = let most : 10 ^ i ≤ 10 ^ 5 = pow-le-pow-right (omega arith) k in omega arith
-
-number-below : (bs : List ℕ) (i x : ℕ) → Each Digit bs → x < 10 ^ i → numberOn x bs < 10 ^ (i + length bs)
-number-below [] i x h k = let e : i + 0 ≡ i = omega arith in rw e k
-number-below (b ∷ bs) i x h k =
-    let e : i + suc (length bs) ≡ i + 1 + length bs = omega arith in
-    rw e (number-below bs (i + 1) (10 * x + (b - 48)) (h .1) (digit-below i x (b - 48) k (omega (arith, h .0))))
 
 -- so a field is a number exactly where it is not read as none
 module _ (f : List ℕ) where

@@ -4,7 +4,7 @@ ghost use mathlib.Core.Path.{_≡_};
 ghost use Prim.Native.Nat.{_≤_};
 ghost use Rattle.moves_text.specs.Output.{output};
 ghost use Rattle.moves_text.specs.Space.{filled, lengthFilled};
-ghost use Rattle.cell_layout.specs.HostAnswers.{packed, readAnswer, readCell, checkAnswer, eventAnswer, eventCell, drainAnswer, drainCell};
+ghost use Rattle.cell_layout.specs.HostAnswers.{packed, readAnswer, readCell, writeAnswer, writtenSpace, checkAnswer, eventAnswer, eventCell, drainAnswer, drainCell};
 use cell_events::drain_at;
 use cell_events::event_at;
 use cell_events::pack;
@@ -16,9 +16,11 @@ use plan_numbers::check_first;
 use plan_numbers::check_number;
 use plan_numbers::check_second;
 use plan_numbers::text_number;
+use plan_numbers::write_number;
 use reader::read;
 use upstream::upstream_check;
 use whole_run::answer_input;
+use writer::write_plan;
 
 fn u32_to_u64(x: u32) -> u64
     ensures { λ r. ⌜ (r ≡ x) × (r ≤ 4294967295) ⌝ }
@@ -81,6 +83,19 @@ pub extern "C" fn rilthoss_read_plan(cell: &mut [u8], text: &[u8]) -> u64
     let answer = reading.answer;
     put_plan(reading.plan, cell);
     pack(text_number(answer), reading.line)
+}
+
+// The spelling of the plan, written into the space; the place is its length.
+#[no_mangle]
+pub extern "C" fn rilthoss_write_plan<'a>(cell: &'a [u8], space: &'a mut [u8]) -> u64
+    ensures { λ r. ⌜ (r ≡ writeAnswer (now (cell .entry)) (now (space .entry))) × (now (space .exit) ≡ writtenSpace (now (cell .entry)) (now (space .entry))) ⌝ }
+{
+    if cell.len() < CELL {
+        return 9;
+    }
+    let written = write_plan(plan_in(cell), space);
+    let answer = written.answer;
+    pack(write_number(answer), written.length as u32)
 }
 
 // The upstream check of the plan.

@@ -1,9 +1,11 @@
 -- Document 01's starred runs, as rows of one table: what is asked, and the numbers that the paper gives for it. With them the
 -- crossing plan's text, the whole run, as events and from bytes to bytes, a number used again after its unload, both sides of
 -- the largest number, the pulls of change request S-1, with what the ledger holds before and after one, and the row that 19 names
--- by change request S-2.
+-- by change request S-2; and by S-3 the crossing plan written and respelled, spaces that fit and one a byte short, zeros, a refused text and an unsound plan.
 use Prim.Native.Nat.{ℕ, zero, suc}
 use mathlib.Core.List.{List, [], _∷_, _++_, map}
+use lib.ListN.{replicate}
+use Rattle.model.specs.Plan.{emptyPlan}
 use Rattle.model.specs.Upstream.{check, checkNumbers}
 use Rattle.model.specs.Jobs.{rowSum, worstRow}
 use Rattle.model.specs.declared.Plan.{Plan}
@@ -18,8 +20,11 @@ use Rattle.emptying.specs.Run.{run, answers, admittedCount}
 use Rattle.emptying.specs.Emptying.{start}
 use Rattle.plan_text.specs.TextQuestions.{textNumber}
 use Rattle.plan_text.specs.Reading.{reading}
+use Rattle.moves_text.specs.Quoted.{quoted}
 use Rattle.moves_text.specs.Output.{output}
-use Rattle.worked.specs.Texts.{capacityText, largeCapacityText, stagesText, moreStagesText, crossingText, wholeInput, wholeOutput, pullInput, pullOutput, planNumbers}
+use Rattle.plan_spelling.specs.Writing.{writeNumber, writing, spaceAfter}
+use Rattle.plan_spelling.specs.Respelled.{respelledOutput}
+use Rattle.worked.specs.Texts.{capacityText, largeCapacityText, stagesText, moreStagesText, crossingText, shuffledText, oneStageText, wholeInput, wholeOutput, pullInput, pullOutput, planNumbers}
 use Rattle.worked.specs.Plans.{crossingWith, crossingPlan, equation40, withoutRows, oneStation, oneStage, jobsPerStage}
 
 -- what is asked
@@ -33,6 +38,8 @@ pub data Run : Type 0 where
   followed : Plan → List Event → Run
   booked : Plan → List Event → Run
   printed : List ℕ → Run
+  spelled : Plan → ℕ → Run
+  respelled : List ℕ → Run
 
 -- the list f 1, .., f n
 upTo : ℕ → (ℕ → ℕ) → List ℕ
@@ -54,7 +61,8 @@ lines p t (e ∷ es) =
 -- two places; of jobs against the rows each row's sum, the row exceeded by the most and its excess; of a drain its answer and moves, of an event its
 -- answer and place, both with the stages at which the jobs then stand; of events from the empty table the lines above, or the ledger: the
 -- units taken and given back of each resource, the stages still before its jobs, and the events admitted; of an input of `cellmoves`
--- the bytes that it prints
+-- the bytes that it prints; of a plan that is written into so many bytes of 46 its answer and length, and the bytes then; of a text the
+-- bytes that `cellplan` prints
 unfoldable pub result : Run → List ℕ
 unfolding upTo stagesOf lines
 result (read text) = let r = reading text in textNumber (r .answer) ∷ r .line ∷ []
@@ -76,6 +84,10 @@ result (booked p es) =
     ∷ admittedCount (answers p emptyList es)
     ∷ []
 result (printed input) = output input
+result (spelled p room) =
+    let space : List ℕ = replicate room 46 in
+    writeNumber (writing p space .answer) ∷ writing p space .length ∷ spaceAfter p space
+result (respelled text) = respelledOutput text
 
 pub record Row : Type 0 where
   pub asked : Run
@@ -144,4 +156,13 @@ rows =
     ∷ row (answered (oneStage (5 ∷ 0 ∷ []) (7 ∷ 3 ∷ [])) [] (Load 1 1)) (19 ∷ 2 ∷ [])
     ∷ row (answered (oneStage (1 ∷ 1 ∷ 1 ∷ []) (2 ∷ 4 ∷ 3 ∷ [])) [] (Load 1 1)) (19 ∷ 2 ∷ [])
     ∷ row (answered (oneStage (0 ∷ 0 ∷ []) (254 ∷ 255 ∷ [])) [] (Load 1 1)) (19 ∷ 2 ∷ [])
+    ∷ row (respelled crossingText) crossingText
+    ∷ row (respelled shuffledText) crossingText
+    ∷ row (respelled capacityText) (quoted "P\t7\t3\n")
+    ∷ row (spelled crossingPlan 214) (0 ∷ 214 ∷ crossingText)
+    ∷ row (spelled crossingPlan 216) (0 ∷ 214 ∷ crossingText ++ 46 ∷ 46 ∷ [])
+    ∷ row (spelled crossingPlan 213) (9 ∷ 0 ∷ replicate 213 46)
+    ∷ row (spelled (oneStage (10 ∷ 0 ∷ []) (0 ∷ 255 ∷ [])) 57) (0 ∷ 57 ∷ oneStageText)
+    ∷ row (spelled emptyPlan 2) (11 ∷ 0 ∷ 46 ∷ 46 ∷ [])
+    ∷ row (spelled emptyPlan 0) (11 ∷ 0 ∷ [])
     ∷ []

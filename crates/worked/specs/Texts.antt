@@ -31,6 +31,21 @@ crossingText =
     ++ quoted "A\t1\t1\t1\t1\nA\t1\t2\t3\t1\nA\t2\t1\t1\t1\nA\t2\t1\t2\t1\nA\t2\t2\t1\t1\nA\t2\t2\t2\t1\nA\t3\t1\t3\t1\nA\t3\t2\t1\t1\n"
     ++ quoted "K\t1\t1\nK\t2\t2\nK\t3\t1\n"
 
+-- the same plan by another hand: each section from its end on, leading zeros, comments and empty lines
+unfoldable pub shuffledText : List ℕ
+shuffledText =
+    quoted "# crossing\n\nC\t03\t2\t00003\n"
+    ++ quoted "R\t3\t1\nR\t2\t01\nR\t1\t1\n\n"
+    ++ quoted "T\t2\t3\n# the first type\nT\t1\t3\n"
+    ++ quoted "S\t2\t3\t1\t1\nS\t2\t2\t2\t1\nS\t2\t1\t3\t1\nS\t1\t3\t3\t1\nS\t1\t2\t2\t1\nS\t1\t1\t1\t1\n"
+    ++ quoted "B\t3\t00001\nB\t2\t1\nB\t1\t1\n"
+    ++ quoted "A\t3\t2\t1\t1\nA\t3\t1\t3\t1\nA\t2\t2\t2\t1\nA\t2\t2\t1\t1\nA\t2\t1\t2\t1\nA\t2\t1\t1\t1\nA\t1\t2\t3\t1\nA\t1\t1\t1\t1\n"
+    ++ quoted "K\t3\t1\nK\t2\t2\nK\t1\t1\n#\n"
+
+-- one stage, two rows: the weight of 0 in row 1 is left out, and the bound of 0 of row 2 is written
+unfoldable pub oneStageText : List ℕ
+oneStageText = quoted "C\t1\t1\t2\nR\t1\t255\nT\t1\t1\nS\t1\t1\t1\t1\nB\t1\t10\nB\t2\t0\nA\t2\t1\t1\t255\n"
+
 -- the input of the whole run, and what is printed
 unfoldable pub wholeInput : List ℕ
 unfolding crossingText

@@ -4,13 +4,17 @@
 mod measure;
 mod plans;
 
+use differential::inputs::CROSSING;
 use library::{cell, Answer, CELL, MAX_OUTPUT};
 use measure::{measure, print_head, time, ROUNDS};
-use plans::{conforming_plan, event_plan, event_table, first_stages, full_text, Size};
+use plans::{
+    conforming_plan, event_plan, event_table, first_stages, full_text, longest_plan, Size, SMALLEST,
+};
 use reference::drain::drain;
 use reference::event;
 use reference::run::run;
-use reference::text::read_plan;
+use reference::spelling::write_plan;
+use reference::text::{read_plan, MAX_TEXT};
 use reference::upstream::check;
 use reference::{Plan, Table};
 use std::hint::black_box;
@@ -21,6 +25,7 @@ fn main() {
     println!();
     print_head();
     read_lines();
+    write_lines();
     fixed_line();
     for size in [Size::Smallest, Size::Largest] {
         for jobs in [1, 16, 63] {
@@ -60,6 +65,36 @@ fn read_lines() {
         },
         || {
             black_box(read_plan(black_box(&text)));
+        },
+    );
+}
+
+fn write_lines() {
+    write_line("the smallest plan, 30 bytes", &read_plan(SMALLEST).plan);
+    write_line("the crossing plan, 214 bytes", &read_plan(CROSSING).plan);
+    write_line("the largest plan that fits, 65,536 bytes", &longest_plan());
+}
+
+/// Both sides ask whether the plan is sound and measure its text before they write it.
+fn write_line(what: &str, plan: &Plan) {
+    let bytes = cell::encode(plan, &Table::EMPTY);
+    let mut space = vec![0; MAX_TEXT];
+    let mut found = space.clone();
+    let writing = write_plan(plan, &mut space);
+    assert_eq!(writing.number, 0);
+    let answered = library::write_plan(&bytes, &mut found);
+    assert_eq!(answered, answer(0, writing.length, 0));
+    assert_eq!(found, space);
+    measure(
+        &format!("write {what}"),
+        || {
+            black_box(library::write_plan(
+                black_box(&bytes),
+                black_box(&mut found),
+            ));
+        },
+        || {
+            black_box(write_plan(black_box(plan), black_box(&mut space)));
         },
     );
 }

@@ -1,8 +1,13 @@
 //! The plans, tables and texts that are measured.
 
 use differential::plans::weigh_upstream;
+use reference::spelling::text_length;
+use reference::text::{read_plan, MAX_TEXT};
 use reference::{Job, Plan, Table};
 use std::fmt;
+
+/// The smallest plan that a text can give.
+pub const SMALLEST: &[u8] = b"C\t1\t1\t0\nR\t1\t1\nT\t1\t1\nS\t1\t1\t1\t1\n";
 
 #[derive(Clone, Copy, PartialEq, Eq)]
 pub enum Size {
@@ -128,4 +133,16 @@ pub fn full_text(length: usize) -> Vec<u8> {
     let text = counts + &demands + &bounds + &weights + &ranks;
     let comment = "#".repeat(length - text.len() - 1);
     (text + &comment + "\n").into_bytes()
+}
+
+/// A plan whose spelling has 65,536 bytes: that of a full text, where weights of two digits make up
+/// for the comment.
+pub fn longest_plan() -> Plan {
+    let mut plan = read_plan(&full_text(MAX_TEXT)).plan;
+    let left = MAX_TEXT - text_length(&plan);
+    for stage in &mut plan.stages[..left] {
+        stage.weight[0] = 10;
+    }
+    assert_eq!(text_length(&plan), MAX_TEXT);
+    plan
 }

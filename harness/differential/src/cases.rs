@@ -1,14 +1,14 @@
 //! The kinds of cases, and the runs of many of them.
 
 use crate::compare::{compare_run, Call, Sides, Space};
-use crate::counts::Counts;
+use crate::counts::{Counts, Group};
 use crate::events;
 use crate::inputs;
 use crate::patterns;
 use crate::plans::{self, Size};
 use crate::random::Random;
 use crate::texts;
-use library::{cell, CELL};
+use library::{cell, CELL, MAX_OUTPUT};
 use reference::{Plan, Table};
 use std::panic::{catch_unwind, AssertUnwindSafe};
 use std::thread;
@@ -24,6 +24,8 @@ enum Kind {
     Check,
     Run,
     Emptying,
+    Writing,
+    Shuffled,
 }
 
 pub struct Outcome {
@@ -33,11 +35,29 @@ pub struct Outcome {
 
 /// Runs the cases 0 to `cases` - 1 of a seed; the outcome does not depend on the threads.
 pub fn run_cases(cases: u64, seed: u64, threads: u64) -> Outcome {
+    run_all(cases, threads, move |index, counts| {
+        run_case(seed, index, counts)
+    })
+}
+
+/// Runs as many cases of shuffled texts and no others.
+pub fn run_shuffled(cases: u64, seed: u64, threads: u64) -> Outcome {
+    run_all(cases, threads, move |index, counts| {
+        run_kind(Kind::Shuffled, Random::of_case(seed, index), counts)
+            .map_err(|difference| format!("shuffled text {index} of seed {seed}: {difference}"))
+    })
+}
+
+fn run_all(
+    cases: u64,
+    threads: u64,
+    run: impl Fn(u64, &mut Counts) -> Result<(), String> + Copy + Send + 'static,
+) -> Outcome {
     let part = move |first: u64| {
         let mut counts = Counts::default();
         let mut failures = Vec::new();
         for index in (first..cases).step_by(threads as usize) {
-            if let Err(failure) = run_case(seed, index, &mut counts) {
+            if let Err(failure) = run(index, &mut counts) {
                 failures.push(failure);
             }
             if failures.len() == MOST_FAILURES {
@@ -65,13 +85,20 @@ pub fn run_cases(cases: u64, seed: u64, threads: u64) -> Outcome {
 pub fn run_case(seed: u64, index: u64, counts: &mut Counts) -> Result<(), String> {
     let mut random = Random::of_case(seed, index);
     let kind = match random.below(100) {
-        0..=31 => Kind::Text,
-        32..=53 => Kind::Events,
-        54..=74 => Kind::Pattern,
-        75..=82 => Kind::Check,
-        83..=95 => Kind::Run,
-        _ => Kind::Emptying,
+        0..=29 => Kind::Text,
+        30..=50 => Kind::Events,
+        51..=70 => Kind::Pattern,
+        71..=78 => Kind::Check,
+        79..=90 => Kind::Run,
+        91..=94 => Kind::Emptying,
+        95..=97 => Kind::Writing,
+        _ => Kind::Shuffled,
     };
+    run_kind(kind, random, counts)
+        .map_err(|difference| format!("{kind:?} case, seed {seed}, index {index}: {difference}"))
+}
+
+fn run_kind(kind: Kind, mut random: Random, counts: &mut Counts) -> Result<(), String> {
     let case = || match kind {
         Kind::Text => text_case(&mut random, counts),
         Kind::Events => events_case(&mut random, counts),
@@ -79,10 +106,10 @@ pub fn run_case(seed: u64, index: u64, counts: &mut Counts) -> Result<(), String
         Kind::Check => check_case(&mut random, counts),
         Kind::Run => run_input_case(&mut random, counts),
         Kind::Emptying => emptying_case(&mut random, counts),
+        Kind::Writing => writing_case(&mut random, counts),
+        Kind::Shuffled => shuffled_case(&mut random, counts),
     };
-    catch_unwind(AssertUnwindSafe(case))
-        .unwrap_or_else(|_| Err("panic".to_string()))
-        .map_err(|difference| format!("{kind:?} case, seed {seed}, index {index}: {difference}"))
+    catch_unwind(AssertUnwindSafe(case)).unwrap_or_else(|_| Err("panic".to_string()))
 }
 
 fn demand(holds: bool, what: &str) -> Result<(), String> {
@@ -114,7 +141,20 @@ fn space(random: &mut Random) -> Space {
         20..=24 => Space::None,
         25..=54 => Space::More(0),
         55..=98 => Space::More(random.between(1, 100)),
-        _ => Space::Most,
+        _ => Space::Of(MAX_OUTPUT),
+    }
+}
+
+/// Space for a plan's text: mostly just enough or a byte more or less, or near 65,536 bytes.
+fn text_space(random: &mut Random) -> Space {
+    match random.below(100) {
+        0..=17 => Space::OneLess,
+        18..=25 => Space::None,
+        26..=47 => Space::More(0),
+        48..=65 => Space::More(1),
+        66..=81 => Space::More(random.between(2, 100)),
+        82..=89 => Space::Of(random.below(300)),
+        _ => Space::Of(random.pick(&[65_535, 65_536, 65_537, 120_000])),
     }
 }
 
@@ -129,6 +169,9 @@ fn text_case(random: &mut Random, counts: &mut Counts) -> Result<(), String> {
     if let (Some(plan), false) = (&text.accepted, is_short) {
         demand(answer.number == 0, "a valid text was refused")?;
         demand(sides.plan == *plan, "the plan is not the one written")?;
+    }
+    if answer.number == 0 && random.chance(20) {
+        respell(random, &mut sides, &text.bytes)?;
     }
     let space = space(random);
     compare_run(&text.bytes, space, random, counts)
@@ -175,11 +218,12 @@ fn events_case(random: &mut Random, counts: &mut Counts) -> Result<(), String> {
     Ok(())
 }
 
-/// A cell of any bits, each function called twice.
+/// A cell of any bits, its plan written and each function called twice.
 fn pattern_case(random: &mut Random, counts: &mut Counts) -> Result<(), String> {
     let mut bytes = patterns::bytes(random);
     set_length(random, &mut bytes);
     let mut sides = Sides::new(bytes, counts);
+    sides.write_plan(text_space(random), random)?;
     for _ in 0..2 {
         let (plan, table) = (&sides.plan, &sides.table);
         let mut calls = [
@@ -250,4 +294,99 @@ fn emptying_case(random: &mut Random, counts: &mut Counts) -> Result<(), String>
     demand(answer.number == 0, "a drain stopped early")?;
     demand(answer.first == left, "a drain miscounted its moves")?;
     demand(sides.table == Table::EMPTY, "a drained table is not empty")
+}
+
+/// A plan written into several spaces. What was written is read as the same plan, so no two plans
+/// share a text, and is written again by the same bytes.
+fn writing_case(random: &mut Random, counts: &mut Counts) -> Result<(), String> {
+    let mut bytes = written_cell(random);
+    set_length(random, &mut bytes);
+    let mut sides = Sides::new(bytes, counts);
+    let mut text = Vec::new();
+    for _ in 0..3 {
+        let space = text_space(random);
+        let written = sides.write_plan(space, random)?;
+        if !written.is_empty() {
+            text = written;
+        }
+    }
+    if text.is_empty() {
+        return Ok(());
+    }
+    let plan = sides.plan;
+    let mut sides = Sides::new(random.bytes(CELL), counts);
+    let answer = sides.read_plan(&text)?;
+    demand(answer.number == 0, "a written text was refused")?;
+    demand(sides.plan == plan, "a written text gives another plan")?;
+    let again = sides.write_plan(Space::More(0), random)?;
+    demand(again == text, "a written text is written otherwise")
+}
+
+/// Plans of every size, many of them with some 65,536 bytes of text or with more, some changed so
+/// that they are not sound; and cells of any bits. The writer does not ask about the jobs, so any
+/// bytes stand there.
+fn written_cell(random: &mut Random) -> Vec<u8> {
+    let mut plan = match random.below(100) {
+        0..=49 => spelled_plan(random),
+        50..=55 => plans::dense(random),
+        56..=74 => {
+            let length = random.between(65_534, 65_538);
+            plans::with_text_length(random, length)
+        }
+        _ => return patterns::bytes(random),
+    };
+    if random.chance(15) {
+        patterns::change_plan(random, &mut plan);
+    }
+    let mut bytes = random.bytes(CELL);
+    cell::encode_plan(&plan, &mut bytes);
+    bytes
+}
+
+/// A sound plan of any kind, often with numbers of every count of digits.
+fn spelled_plan(random: &mut Random) -> Plan {
+    let mut plan = plans::plan(random);
+    if random.chance(40) {
+        plans::set_edges(random, &mut plan);
+    }
+    plan
+}
+
+/// A plan's text in any order and with all that a text may hold beside its records.
+fn shuffled_case(random: &mut Random, counts: &mut Counts) -> Result<(), String> {
+    let (plan, text) = loop {
+        let plan = match random.chance(1) {
+            true => plans::with_text_length(random, 65_536),
+            false => spelled_plan(random),
+        };
+        if let Some(text) = texts::shuffled(random, &plan) {
+            break (plan, text);
+        }
+    };
+    let mut sides = Sides::new(random.bytes(CELL), counts);
+    let answer = sides.read_plan(&text)?;
+    demand(answer.number == 0, "a shuffled text was refused")?;
+    demand(sides.plan == plan, "a shuffled text gives another plan")?;
+    respell(random, &mut sides, &text)?;
+    counts.add(Group::Shuffled, answer.number);
+    Ok(())
+}
+
+/// The plan of an accepted text is written as that text's records in order, never longer than the
+/// text; reading and writing it once more changes no byte.
+fn respell(random: &mut Random, sides: &mut Sides<'_>, text: &[u8]) -> Result<(), String> {
+    let plan = sides.plan.clone();
+    let more = random.pick(&[0, 1, 50]);
+    let spelling = sides.write_plan(Space::More(more), random)?;
+    let expected = texts::sorted(text);
+    demand(
+        spelling == expected,
+        "a spelling is not the records in order",
+    )?;
+    demand(spelling.len() <= text.len(), "a spelling is longer")?;
+    let answer = sides.read_plan(&spelling)?;
+    demand(answer.number == 0, "a spelling was refused")?;
+    demand(sides.plan == plan, "a spelling gives another plan")?;
+    let again = sides.write_plan(Space::More(more), random)?;
+    demand(again == spelling, "a spelling is written otherwise")
 }

@@ -5,9 +5,10 @@ use crate::counts::{Counts, Group};
 use crate::guarded::Guarded;
 use crate::random::Random;
 use crate::rows::broken;
-use library::{cell, Answer, CELL, MAX_OUTPUT};
+use library::{cell, Answer, CELL};
 use reference::drain::drain;
 use reference::event::{advance, load, pull, unload};
+use reference::spelling::{text_length, write_plan};
 use reference::text::read_plan;
 use reference::upstream::check;
 use reference::{Plan, Table};
@@ -23,13 +24,28 @@ pub enum Call {
     Drain { budget: u32 },
 }
 
-/// Output space of a whole run, by what is printed; the most is enough for every run.
+/// Stands for the length of a text where a plan is not sound and has none.
+const WITHOUT_TEXT: usize = 200;
+
+/// A lent space, by the length of what is to be written into it.
 #[derive(Clone, Copy, Debug, PartialEq, Eq)]
 pub enum Space {
     None,
     OneLess,
     More(usize),
-    Most,
+    /// So many bytes, whatever is to be written.
+    Of(usize),
+}
+
+impl Space {
+    fn length(self, written: usize) -> usize {
+        match self {
+            Space::None => 0,
+            Space::OneLess => written.saturating_sub(1),
+            Space::More(more) => written + more,
+            Space::Of(length) => length,
+        }
+    }
 }
 
 /// A cell with any bytes, of any length.
@@ -75,6 +91,32 @@ impl Sides<'_> {
         self.compare(format_args!("reading"), expected, found)
             .map_err(|difference| format!("{difference}\n  text {}", shown(text)))?;
         Ok(expected)
+    }
+
+    /// Writes the plan's text into a space. The space is filled before with bytes that no text
+    /// has; neither the cell nor what lies beyond the text may change. What the library wrote is
+    /// returned, nothing if that was refused.
+    pub fn write_plan(&mut self, space: Space, random: &mut Random) -> Result<Vec<u8>, String> {
+        let length = self.plan.is_sound().then(|| text_length(&self.plan));
+        let mut expected = random.bytes(space.length(length.unwrap_or(WITHOUT_TEXT)));
+        expected.iter_mut().for_each(|byte| *byte |= 0x80);
+        let mut found = Guarded::new(&expected);
+        let (due, asked) = if self.is_short() {
+            (answer(9, 0, 0), None)
+        } else {
+            let writing = write_plan(&self.plan, &mut expected);
+            (answer(writing.number, writing.length, 0), length)
+        };
+        self.counts.add_writing(due.number, asked, expected.len());
+        let given = library::write_plan(self.found.inner(), found.inner_mut());
+        self.compare(format_args!("writing"), due, given)
+            .and_then(|()| compare_bytes(&expected, found.inner()))
+            .and_then(|()| found.check())
+            .map_err(|difference| {
+                let (expected, found) = (shown(&expected), shown(found.inner()));
+                format!("{difference}\n  expected {expected}\n  found {found}")
+            })?;
+        Ok(found.inner()[..due.first as usize].to_vec())
     }
 
     pub fn call(&mut self, call: Call) -> Result<Answer, String> {
@@ -152,12 +194,7 @@ pub fn compare_run(
     counts: &mut Counts,
 ) -> Result<(), String> {
     let printed = reference::run::run(input);
-    let length = match space {
-        Space::None => 0,
-        Space::OneLess => printed.len() - 1,
-        Space::More(more) => printed.len() + more,
-        Space::Most => MAX_OUTPUT,
-    };
+    let length = space.length(printed.len());
     let mut expected = random.bytes(length);
     let mut found = Guarded::new(&expected);
     let fits = printed.len() <= length;
@@ -277,5 +314,24 @@ mod tests {
         sides.found.inner_mut()[9107] ^= 1;
         let report = sides.call(Call::Drain { budget: 0 });
         assert!(report.is_err());
+    }
+
+    #[test]
+    fn changed_writings_are_reported() {
+        let mut random = Random::of_case(1, 2);
+        let plan = conforming(&mut random, Size::Tiny);
+        let bytes = cell::encode(&plan, &Table::EMPTY);
+        let mut counts = Counts::default();
+        let mut sides = Sides::new(bytes.clone(), &mut counts);
+        for space in [Space::More(9), Space::OneLess] {
+            assert!(sides.write_plan(space, &mut random).is_ok());
+        }
+        sides.plan.bound[0] ^= 1;
+        assert!(sides.write_plan(Space::More(9), &mut random).is_err());
+        sides.plan.types = 0;
+        assert!(sides.write_plan(Space::None, &mut random).is_err());
+        let mut sides = Sides::new(bytes, &mut counts);
+        sides.expected[9107] ^= 1;
+        assert!(sides.write_plan(Space::More(9), &mut random).is_err());
     }
 }

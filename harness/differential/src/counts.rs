@@ -1,8 +1,9 @@
-//! How often each published number occurred, how the rows were broken where it was 19, and what
-//! never occurred.
+//! How often each published number occurred, how the rows were broken where it was 19, how the
+//! space stood to the text where a plan was written, and what never occurred.
 
 use crate::compare::Call;
 use crate::rows::Broken;
+use reference::text::MAX_TEXT;
 
 /// What is counted by a number: most of it answers a published one.
 #[derive(Clone, Copy, Debug, PartialEq, Eq)]
@@ -28,9 +29,24 @@ pub enum Group {
     /// is not.
     WorstFirst,
     WorstLater,
+    Write,
+    /// What a 9 of the writer was for; both are the space and the longest text.
+    ShortCell,
+    ShortSpace,
+    LongText,
+    Both,
+    /// A plan that is not sound, and no space either.
+    NoSpace,
+    /// Bytes that the space has beyond the text, or is short of; 2 stands for more.
+    BytesLeft,
+    BytesShort,
+    /// Bytes of a text above 65,535, where the space is enough.
+    NearLimit,
+    /// The answer to a shuffled text, whose spelling was then compared.
+    Shuffled,
 }
 
-const GROUPS: usize = 15;
+const GROUPS: usize = 25;
 const NUMBERS: usize = 42;
 
 #[derive(Clone, Debug)]
@@ -65,6 +81,16 @@ const REQUIRED: &[(&str, &[Group], &[usize])] = {
         ("19, unequal, which is named", &[RowNamed], &[1, 2, 3, 4]),
         ("19, equally worst, the first", &[WorstFirst], &[1, 2, 3]),
         ("19, equally worst, later ones", &[WorstLater], &[1, 2, 3]),
+        ("writer", &[Write], &[0, 9, 11]),
+        ("writer, for the cell", &[ShortCell], &[9]),
+        ("writer, for the space", &[ShortSpace], &[9]),
+        ("writer, for 65,536 bytes", &[LongText], &[9]),
+        ("writer, for both of these", &[Both], &[9]),
+        ("writer, without space", &[NoSpace], &[11]),
+        ("writer, bytes left (2: more)", &[BytesLeft], &[0, 1, 2]),
+        ("writer, bytes short (2: more)", &[BytesShort], &[1, 2]),
+        ("writer, bytes above 65,535", &[NearLimit], &[0, 1, 2]),
+        ("shuffled text", &[Shuffled], &[0]),
     ]
 };
 
@@ -91,6 +117,32 @@ impl Counts {
             Call::Drain { .. } => Group::Drain,
         };
         self.add(group, number);
+    }
+
+    /// An answer of the writer in so much space; with the length of the text, if there is a sound
+    /// plan to ask for it.
+    pub fn add_writing(&mut self, number: u32, length: Option<usize>, space: usize) {
+        self.add(Group::Write, number);
+        let Some(length) = length else {
+            match number {
+                9 => self.add(Group::ShortCell, number),
+                _ if space == 0 => self.add(Group::NoSpace, number),
+                _ => {}
+            }
+            return;
+        };
+        match (length > space, length > MAX_TEXT) {
+            (false, false) => self.add(Group::BytesLeft, (space - length).min(2) as u32),
+            (true, false) => {
+                self.add(Group::ShortSpace, number);
+                self.add(Group::BytesShort, (length - space).min(2) as u32);
+            }
+            (false, true) => self.add(Group::LongText, number),
+            (true, true) => self.add(Group::Both, number),
+        }
+        if let (Some(above @ 0..=2), true) = (length.checked_sub(MAX_TEXT - 1), length <= space) {
+            self.add(Group::NearLimit, above as u32);
+        }
     }
 
     /// The rows that an event answered with 19 would break.
@@ -121,6 +173,11 @@ impl Counts {
         }
     }
 
+    /// How often a number occurred in a group.
+    pub fn of(&self, group: Group, number: usize) -> u64 {
+        self.numbers[group as usize][number]
+    }
+
     pub fn merge(&mut self, other: &Counts) {
         let places = self.numbers.iter_mut().flatten();
         for (place, more) in places.zip(other.numbers.iter().flatten()) {
@@ -131,9 +188,7 @@ impl Counts {
     fn required(&self) -> impl Iterator<Item = (&'static str, usize, u64)> + '_ {
         REQUIRED.iter().flat_map(move |&(name, groups, numbers)| {
             numbers.iter().map(move |&number| {
-                let counts = groups
-                    .iter()
-                    .map(|&group| self.numbers[group as usize][number]);
+                let counts = groups.iter().map(|&group| self.of(group, number));
                 (name, number, counts.sum())
             })
         })
@@ -187,6 +242,34 @@ mod tests {
         assert_eq!(of(Group::RowNamed), [0, 0, 1, 0]);
         assert_eq!(of(Group::WorstFirst), [0, 1, 1, 0]);
         assert_eq!(of(Group::WorstLater), [0, 0, 1, 0]);
+    }
+
+    /// A short cell; an unsound plan; then texts around 65,536 bytes and spaces around the texts.
+    #[test]
+    fn writings_are_counted() {
+        let mut counts = Counts::default();
+        counts.add_writing(9, None, 0);
+        counts.add_writing(11, None, 0);
+        counts.add_writing(11, None, 5);
+        for (length, space) in [(30, 30), (30, 31), (65_535, 65_536), (65_536, 99_999)] {
+            counts.add_writing(0, Some(length), space);
+        }
+        for (length, space) in [(30, 29), (30, 0), (65_537, 65_537), (65_537, 65_536)] {
+            counts.add_writing(9, Some(length), space);
+        }
+        let of = |group: Group| {
+            let held = (0..NUMBERS).filter(|&number| counts.of(group, number) > 0);
+            held.map(|number| (number, counts.of(group, number)))
+                .collect::<Vec<_>>()
+        };
+        assert_eq!(of(Group::Write), [(0, 4), (9, 5), (11, 2)]);
+        let reasons = [Group::ShortCell, Group::ShortSpace, Group::LongText];
+        assert_eq!(reasons.map(of), [[(9, 1)], [(9, 2)], [(9, 1)]]);
+        assert_eq!(of(Group::Both), [(9, 1)]);
+        assert_eq!(of(Group::NoSpace), [(11, 1)]);
+        assert_eq!(of(Group::BytesLeft), [(0, 1), (1, 2), (2, 1)]);
+        assert_eq!(of(Group::BytesShort), [(1, 1), (2, 1)]);
+        assert_eq!(of(Group::NearLimit), [(0, 1), (1, 1), (2, 1)]);
     }
 
     #[test]

@@ -4,7 +4,8 @@ use crate::plans::{self, Room, Size};
 use crate::random::Random;
 use crate::texts::{change_bytes, damaged, join, lines, skipped, text};
 
-const CROSSING: &[u8] = b"C\t3\t2\t3\nR\t1\t1\nR\t2\t1\nR\t3\t1\nT\t1\t3\nT\t2\t3\n\
+/// The crossing plan of document 01.
+pub const CROSSING: &[u8] = b"C\t3\t2\t3\nR\t1\t1\nR\t2\t1\nR\t3\t1\nT\t1\t3\nT\t2\t3\n\
 S\t1\t1\t1\t1\nS\t1\t2\t2\t1\nS\t1\t3\t3\t1\nS\t2\t1\t3\t1\nS\t2\t2\t2\t1\nS\t2\t3\t1\t1\n\
 B\t1\t1\nB\t2\t1\nB\t3\t1\nA\t1\t1\t1\t1\nA\t1\t2\t3\t1\nA\t2\t1\t1\t1\nA\t2\t1\t2\t1\n\
 A\t2\t2\t1\t1\nA\t2\t2\t2\t1\nA\t3\t1\t3\t1\nA\t3\t2\t1\t1\nK\t1\t1\nK\t2\t2\nK\t3\t1\n";

@@ -13,4 +13,4 @@ pub mod random;
 pub mod rows;
 pub mod texts;
 
-pub use cases::{run_case, run_cases, Outcome};
+pub use cases::{run_case, run_cases, run_shuffled, Outcome};

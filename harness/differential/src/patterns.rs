@@ -61,7 +61,7 @@ fn changed(random: &mut Random) -> Vec<u8> {
 }
 
 /// One change that mostly makes the plan unsound.
-fn change_plan(random: &mut Random, plan: &mut Plan) {
+pub fn change_plan(random: &mut Random, plan: &mut Plan) {
     match random.below(13) {
         0 | 1 => change_count(random, plan),
         2..=5 => change_beyond(random, plan),

@@ -2,6 +2,7 @@
 //! The sums and the upstream rule are worked out here anew, not taken from the reference.
 
 use crate::random::Random;
+use reference::spelling::text_length;
 use reference::{Job, Plan, Table};
 
 #[derive(Clone, Copy, Debug, PartialEq, Eq)]
@@ -114,6 +115,83 @@ pub fn general(random: &mut Random, size: Size, room: Room) -> Plan {
         set_ranks(random, &mut plan);
     }
     plan
+}
+
+/// A plan with the highest counts, every demand and every weight: its text has over 90,000 bytes.
+pub fn dense(random: &mut Random) -> Plan {
+    let mut plan = general(random, Size::Largest, Room::Any);
+    for stage in &mut plan.stages {
+        for (demand, &capacity) in stage.demand.iter_mut().zip(&plan.capacity) {
+            *demand = random.between(1, capacity.into()) as u8;
+        }
+        for weight in &mut stage.weight {
+            *weight = random.between(1, 255) as u8;
+        }
+    }
+    plan
+}
+
+/// A plan with the highest counts whose text has this many bytes, from 10,000 to 90,000: a dense
+/// one without some demands and weights, and with bounds that make up for what is then too few.
+pub fn with_text_length(random: &mut Random, length: usize) -> Plan {
+    const LONGEST_RECORD: usize = 15;
+    let mut plan = dense(random);
+    for bound in &mut plan.bound {
+        *bound = random.below(10) as u16;
+    }
+    while let Some(surplus @ 1..) = text_length(&plan).checked_sub(length) {
+        for _ in 0..surplus.div_ceil(LONGEST_RECORD) {
+            thin(random, &mut plan);
+        }
+    }
+    // Fewer bytes than a record has are left, and more rows than that can take one.
+    let left = length - text_length(&plan);
+    for bound in &mut plan.bound[..left] {
+        *bound = random.between(10, 99) as u16;
+    }
+    plan
+}
+
+/// Puts numbers at which a further digit begins, and the highest ones, in many places. The plan
+/// stays sound.
+pub fn set_edges(random: &mut Random, plan: &mut Plan) {
+    const BYTES: [u8; 8] = [1, 9, 10, 99, 100, 101, 254, 255];
+    const BOUNDS: [u16; 11] = [0, 9, 10, 99, 100, 999, 1_000, 9_999, 10_000, 65_534, 65_535];
+    let mut change = |value: &mut u8| {
+        if *value != 0 && random.chance(50) {
+            *value = random.pick(&BYTES);
+        }
+    };
+    plan.capacity.iter_mut().for_each(&mut change);
+    plan.rank.iter_mut().for_each(&mut change);
+    for stage in &mut plan.stages {
+        stage.demand.iter_mut().for_each(&mut change);
+        stage.weight.iter_mut().for_each(&mut change);
+        for (demand, &capacity) in stage.demand.iter_mut().zip(&plan.capacity) {
+            *demand = capacity.min(*demand);
+        }
+    }
+    for bound in &mut plan.bound[..plan.rows.into()] {
+        *bound = random.pick(&BOUNDS);
+    }
+}
+
+/// Takes one weight or demand away; one demand of each stage is kept, so the plan stays sound.
+fn thin(random: &mut Random, plan: &mut Plan) {
+    loop {
+        let place = random.below(plan.stages.len());
+        let number = random.below(32);
+        let stage = &mut plan.stages[place];
+        let value = match random.chance(50) {
+            true => &mut stage.weight[number],
+            false if number == place % 32 => continue,
+            false => &mut stage.demand[number],
+        };
+        if *value != 0 {
+            *value = 0;
+            return;
+        }
+    }
 }
 
 fn set_demands(random: &mut Random, plan: &mut Plan, place: usize, demands: usize, room: Room) {

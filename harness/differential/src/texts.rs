@@ -70,6 +70,57 @@ pub fn lines(random: &mut Random, plan: &Plan) -> Lines {
         zeros: random.chance(20),
         skipped: random.pick(&[0, 0, 0, 5, 30]),
     };
+    styled(random, plan, &style)
+}
+
+/// A text that gives this plan: each section shuffled and, if 65,536 bytes are enough for them,
+/// with leading zeros and skipped lines. None if not even the records have room.
+pub fn shuffled(random: &mut Random, plan: &Plan) -> Option<Vec<u8>> {
+    let zeros = random.chance(80);
+    let skipped = random.pick(&[0, 5, 30, 60]);
+    let styles = [(zeros, skipped), (false, 5), (false, 0)];
+    for (zeros, skipped) in styles {
+        let style = Style {
+            shuffled: true,
+            zeros,
+            skipped,
+        };
+        let mut lines = styled(random, plan, &style);
+        if join(&lines).len() <= LIMIT {
+            if random.chance(3) {
+                fill_up(random, &mut lines, LIMIT);
+            }
+            return Some(join(&lines));
+        }
+    }
+    None
+}
+
+/// The records of an accepted text by section and numbers, without leading zeros: its plan's
+/// spelling, by the text alone. Keys come first and differ, so the values do not decide.
+pub fn sorted(text: &[u8]) -> Vec<u8> {
+    let text = std::str::from_utf8(text).expect("an accepted text is ASCII");
+    let is_record = |line: &&str| !line.is_empty() && !line.starts_with('#');
+    let mut records: Vec<(Option<usize>, Vec<u32>, &str)> = Vec::new();
+    for line in text.lines().filter(is_record) {
+        let (letter, fields) = line.split_once('\t').expect("a record has fields");
+        let number = |field: &str| field.parse().expect("a field is a number");
+        let numbers = fields.split('\t').map(number).collect();
+        records.push(("CRTSBAK".find(letter), numbers, letter));
+    }
+    records.sort();
+    let mut sorted = String::new();
+    for (_, numbers, letter) in records {
+        sorted.push_str(letter);
+        for number in numbers {
+            sorted.push_str(&format!("\t{number}"));
+        }
+        sorted.push('\n');
+    }
+    sorted.into_bytes()
+}
+
+fn styled(random: &mut Random, plan: &Plan, style: &Style) -> Lines {
     let mut lines = Vec::new();
     for mut section in sections(plan) {
         if style.shuffled {
@@ -79,7 +130,7 @@ pub fn lines(random: &mut Random, plan: &Plan) -> Lines {
             while random.chance(style.skipped) {
                 lines.push(skipped(random));
             }
-            lines.push(record(random, &style, letter, &numbers));
+            lines.push(record(random, style, letter, &numbers));
         }
     }
     while random.chance(style.skipped) {
@@ -341,7 +392,16 @@ fn at_limit(random: &mut Random) -> Text {
     let plan = plans::general(random, size, Room::Any);
     let mut lines = lines(random, &plan);
     let length = random.pick(&[LIMIT - 1, LIMIT, LIMIT, LIMIT + 1]);
-    let mut left = length - join(&lines).len();
+    fill_up(random, &mut lines, length);
+    Text {
+        bytes: join(&lines),
+        accepted: (length <= LIMIT).then_some(plan),
+    }
+}
+
+/// Puts comments and empty lines anywhere, and one at the end, until the text has this length.
+fn fill_up(random: &mut Random, lines: &mut Lines, length: usize) {
+    let mut left = length - join(lines).len();
     while left > 0 {
         let most = random.pick(&[1, 80, 40_000]);
         let line = left.min(random.between(1, most));
@@ -357,10 +417,6 @@ fn at_limit(random: &mut Random) -> Text {
         };
         lines.insert(place, comment);
     }
-    Text {
-        bytes: join(&lines),
-        accepted: (length <= LIMIT).then_some(plan),
-    }
 }
 
 /// Random characters of those that texts are made of.
@@ -373,4 +429,33 @@ fn alphabet(random: &mut Random) -> Vec<u8> {
         bytes.splice(0..0, *b"C\t2\t2\t1\n");
     }
     bytes
+}
+
+#[cfg(test)]
+mod tests {
+    use super::*;
+
+    #[test]
+    fn records_are_sorted() {
+        let text = b"#\nC\t2\t01\t00\n\nR\t2\t010\nR\t1\t9\nT\t1\t11\n\
+            S\t1\t10\t1\t1\nS\t1\t2\t2\t3\n# S\nS\t1\t2\t1\t4\nK\t1\t1\n";
+        let expected = b"C\t2\t1\t0\nR\t1\t9\nR\t2\t10\nT\t1\t11\n\
+            S\t1\t2\t1\t4\nS\t1\t2\t2\t3\nS\t1\t10\t1\t1\nK\t1\t1\n";
+        assert_eq!(sorted(text), expected);
+    }
+
+    /// Their length, and that of their spelling, by the text alone.
+    #[test]
+    fn plans_of_a_text_length() {
+        for length in [10_000, 65_535, 65_536, 65_537, 90_000] {
+            let mut random = Random::of_case(1, length as u64);
+            let plan = plans::with_text_length(&mut random, length);
+            assert!(plan.is_sound());
+            let text = join(&lines(&mut random, &plan));
+            assert_eq!(sorted(&text).len(), length);
+            let text = shuffled(&mut random, &plan);
+            assert_eq!(text.is_some(), length <= LIMIT);
+            assert!(text.is_none_or(|text| text.len() <= LIMIT));
+        }
+    }
 }

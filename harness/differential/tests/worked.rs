@@ -1,6 +1,7 @@
-//! The worked runs of document 01, pulls and the row that 19 names (document 02, S-1 and S-2),
-//! asked of the library itself, without the reference.
+//! The worked runs of document 01, pulls, the row that 19 names and the spelling of a plan
+//! (document 02, S-1 to S-3), asked of the library itself, without the reference.
 
+use differential::guarded::Guarded;
 use library::{cell, Answer, CELL, MAX_OUTPUT};
 use std::collections::BTreeSet;
 
@@ -8,6 +9,10 @@ use std::collections::BTreeSet;
 mod document;
 
 use document::rows::{crowded, weighed, ADVANCES, LOADS, RUN};
+use document::spellings::{
+    assert_spellings, longest, CROSSING_LENGTH, ROW_OF_ONE_DIGIT, SMALLEST, SMALLEST_LENGTH,
+    SPELLED, ZEROS,
+};
 use document::{tabbed, table, CROSSING, EQUATION_40, WITHOUT_ROWS};
 
 fn answer(number: u32, first: u32, second: u32) -> Answer {
@@ -62,6 +67,42 @@ fn assert_refused(before: &[u8], event: impl Fn(&mut [u8]) -> Answer, number: u3
 
 fn load(bytes: &mut [u8]) -> Answer {
     library::load(bytes, 99, 1)
+}
+
+/// No byte of a text.
+const FILLING: u8 = 0xEE;
+
+/// Answer and space after a writing into so much of it; neither the cell nor what lies around the
+/// space changes.
+fn write(bytes: &[u8], length: usize) -> (Answer, Vec<u8>) {
+    let before = bytes.to_vec();
+    let mut space = Guarded::new(&vec![FILLING; length]);
+    let answer = library::write_plan(bytes, space.inner_mut());
+    assert_eq!(bytes, before);
+    assert_eq!(space.check(), Ok(()));
+    (answer, space.inner().to_vec())
+}
+
+/// The text of a cell's plan; what lies beyond it in the space stays.
+fn written(bytes: &[u8], length: usize) -> Vec<u8> {
+    let (found, space) = write(bytes, length);
+    assert_eq!(found, answer(0, found.first, 0));
+    let (text, beyond) = space.split_at(found.first as usize);
+    assert!(beyond.iter().all(|&byte| byte == FILLING));
+    text.to_vec()
+}
+
+/// A refusal has length 0 and writes nothing.
+fn assert_unwritten(bytes: &[u8], number: u32, length: usize) {
+    let expected = (answer(number, 0, 0), vec![FILLING; length]);
+    assert_eq!(write(bytes, length), expected);
+}
+
+/// The cell of the longest text with one digit more: 65,537 bytes.
+fn too_long() -> Vec<u8> {
+    let mut bytes = cell(&longest(), [0; 6]);
+    bytes[cell::BOUND + 2 * (ROW_OF_ONE_DIGIT - 1)] = 10;
+    bytes
 }
 
 #[test]
@@ -306,4 +347,100 @@ fn reachable_states() {
         }
     }
     assert_eq!(states.len(), 47);
+}
+
+#[test]
+fn spellings() {
+    assert_spellings(|text| written(&cell(text, [0; 6]), 65_536));
+}
+
+/// By the bytes of its values, without reading a text.
+#[test]
+fn zeros_are_left_out() {
+    let mut bytes = vec![0; CELL];
+    bytes[..3].copy_from_slice(&[2, 1, 2]);
+    bytes[cell::CAPACITY..][..2].fill(1);
+    bytes[cell::LENGTHS] = 2;
+    bytes[cell::STAGES + 1] = 1;
+    bytes[cell::STAGES + cell::STAGE_SIZE + 1] = 1;
+    bytes[cell::STAGES + cell::STAGE_SIZE + 33] = 1;
+    assert_eq!(written(&bytes, 65_536), tabbed(ZEROS));
+}
+
+/// None, one byte short, just enough, one more. Neither the jobs nor bytes after the cell matter.
+#[test]
+fn spaces() {
+    assert_eq!(tabbed(SMALLEST).len(), SMALLEST_LENGTH);
+    assert_eq!(tabbed(CROSSING).len(), CROSSING_LENGTH);
+    for text in SPELLED {
+        let length = text.len();
+        let bytes = cell(text, [0; 6]);
+        let mut crowded = bytes.clone();
+        crowded[cell::TABLE..].fill(0xFF);
+        crowded.push(0xFF);
+        for bytes in [bytes, crowded] {
+            for short in [0, 1, length - 1] {
+                assert_unwritten(&bytes, 9, short);
+            }
+            for enough in [length, length + 1, 65_536, 65_537] {
+                assert_eq!(written(&bytes, enough), tabbed(text));
+            }
+        }
+    }
+}
+
+#[test]
+fn longest_text() {
+    let bytes = cell(&longest(), [0; 6]);
+    for enough in [65_536, 65_537, 200_000] {
+        assert_eq!(written(&bytes, enough), tabbed(&longest()));
+    }
+    assert_unwritten(&bytes, 9, 65_535);
+    for any in [0, 65_536, 65_537, 65_538, 200_000] {
+        assert_unwritten(&too_long(), 9, any);
+    }
+}
+
+/// Everything at its highest: 108,791 bytes.
+#[test]
+fn far_too_long() {
+    let mut bytes = cell(&longest(), [0; 6]);
+    bytes[cell::CAPACITY..cell::LENGTHS].fill(0xFF);
+    bytes[cell::STAGES..cell::TABLE].fill(0xFF);
+    for any in [0, 65_536, 108_790, 108_791, 108_792] {
+        assert_unwritten(&bytes, 9, any);
+    }
+}
+
+/// A cell with a byte changed.
+fn changed(text: &str, place: usize, byte: u8) -> Vec<u8> {
+    let mut bytes = cell(text, [0; 6]);
+    bytes[place] = byte;
+    bytes
+}
+
+/// 9 for a cell that is too short before 11; 11 before 9 for the space or for 65,536 bytes.
+#[test]
+fn unwritten_plans() {
+    let mut long = too_long();
+    long[cell::STAGES] = 2;
+    let unsound = [
+        vec![0; CELL],
+        changed(CROSSING, cell::TABLE - 1, 1),
+        changed(CROSSING, cell::STAGES, 2),
+        changed(SMALLEST, cell::STAGES, 0),
+        changed(ZEROS, cell::RANK, 1),
+        changed(ZEROS, cell::BOUND + 4, 1),
+        changed(ZEROS, cell::STAGES + 34, 1),
+        long,
+    ];
+    for any in [0, 1, 65_536, 200_000] {
+        for bytes in &unsound {
+            assert_unwritten(bytes, 11, any);
+            assert_unwritten(&bytes[..CELL - 1], 9, any);
+        }
+        for length in [0, 1, cell::TABLE, CELL - 1] {
+            assert_unwritten(&cell(CROSSING, [0; 6])[..length], 9, any);
+        }
+    }
 }

@@ -33,6 +33,12 @@ mod c {
             text: *const u8,
             text_length: usize,
         ) -> u64;
+        pub fn rilthoss_write_plan(
+            cell: *const u8,
+            cell_length: usize,
+            space: *mut u8,
+            space_length: usize,
+        ) -> u64;
         pub fn rilthoss_check(cell: *const u8, cell_length: usize) -> u64;
         pub fn rilthoss_load(cell: *mut u8, cell_length: usize, job: u32, job_type: u32) -> u64;
         pub fn rilthoss_advance(cell: *mut u8, cell_length: usize, job: u32) -> u64;
@@ -54,6 +60,12 @@ mod c {
 /// Reads a plan text into the plan's bytes; first is the line.
 pub fn read_plan(cell: &mut [u8], text: &[u8]) -> Answer {
     unsafe { c::rilthoss_read_plan(cell.as_mut_ptr(), cell.len(), text.as_ptr(), text.len()) }
+        .into()
+}
+
+/// Writes the plan's text to the beginning of the space; first is its length.
+pub fn write_plan(cell: &[u8], space: &mut [u8]) -> Answer {
+    unsafe { c::rilthoss_write_plan(cell.as_ptr(), cell.len(), space.as_mut_ptr(), space.len()) }
         .into()
 }
 

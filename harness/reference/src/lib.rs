@@ -1,4 +1,4 @@
-//! Document 01 and requests S-1 and S-2 of document 02 in ordinary safe Rust: the expected answers
+//! Document 01 and requests S-1 to S-3 of document 02 in ordinary safe Rust: the expected answers
 //! of the differential tests and the other side of the benchmark. Written from the documents alone.
 
 #![forbid(unsafe_code)]
@@ -7,6 +7,7 @@ pub mod drain;
 pub mod event;
 pub mod plan;
 pub mod run;
+pub mod spelling;
 pub mod table;
 pub mod text;
 pub mod upstream;

@@ -15,7 +15,8 @@ use Rattle.plan_text.specs.Lines.{Line, lineEnd}
 use Rattle.plan_text.specs.Records.{inRanges}
 use Rattle.plan_text.specs.Written.{Draft, emptyDraft, entriesAfter, boundedAfter, stageAfter, heldBy, heldIn, indexIn, written}
 use Rattle.plan_text.specs.Reading.{refused, isComplete, readFrom}
-use Rattle.plan_text.specs.ReaderParts.{isAccepted, formAnswer, recordAnswer, narrowed, headAfter, draftWith, knownWith}
+use Rattle.plan_text.specs.TextQuestions.{isAccepted}
+use Rattle.plan_text.specs.ReaderParts.{formAnswer, recordAnswer, narrowed, headAfter, draftWith, knownWith}
 use Rattle.plan_text.specs.declared.Record.{Record}
 use Rattle.plan_text.specs.declared.Form.{Form}
 use Rattle.plan_text.specs.declared.TextAnswer.{TextAnswer}

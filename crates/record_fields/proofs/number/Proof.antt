@@ -8,7 +8,8 @@ use lib.ListN.{length, drop, getD}
 use borrow.Author.Tests.{le-leb, lt-leb}
 use Rattle.plan_text.specs.Records.{isDigit}
 use Rattle.plan_text.specs.ReaderParts.{noNumber, numberRead}
-use Rattle.record_fields.proofs.Digits.{readOn, digit-next, digit-bad, digits-end, digit-below, digits-small}
+use Rattle.plan_text.proofs.LineForm.{digit-below}
+use Rattle.record_fields.proofs.Digits.{readOn, digit-next, digit-bad, digits-end, digits-small}
 use Rattle.record_fields.proofs.number.Statement.{statement}
 use Rattle.record_fields.proofs.number.Tie as tie
 

@@ -1,24 +1,12 @@
 -- Here the table is compared, row by row, with the rows of the definition; a section that there is not has no fields.
-use Prim.Native.Nat.{ℕ, zero, suc}
 use mathlib.Core.List.{[]}
-use mathlib.Core.Logic.{_≢_}
 use mathlib.Core.Path.{_≡_, refl, sym, ap}
 use Rattle.plan_text.specs.Records.{layoutOf}
+use Rattle.plan_text.proofs.Sections.{none-of-seven}
 use Rattle.record_ranges.specs.Table.{rowOf}
 use borrow.Author.Needs.{needs}
 use Rattle.record_ranges.proofs.layout_row.Statement.{statement}
 use Rattle.record_ranges.proofs.layout_row.Tie as tie
-
-unnamed : (s : ℕ) → s ≢ 1 → s ≢ 2 → s ≢ 3 → s ≢ 4 → s ≢ 5 → s ≢ 6 → s ≢ 7 → layoutOf s ≡ []
-unnamed zero c r t d b a k = refl
-unnamed (suc zero) c r t d b a k = absurd (c refl)
-unnamed (suc (suc zero)) c r t d b a k = absurd (r refl)
-unnamed (suc (suc (suc zero))) c r t d b a k = absurd (t refl)
-unnamed (suc (suc (suc (suc zero)))) c r t d b a k = absurd (d refl)
-unnamed (suc (suc (suc (suc (suc zero))))) c r t d b a k = absurd (b refl)
-unnamed (suc (suc (suc (suc (suc (suc zero)))))) c r t d b a k = absurd (a refl)
-unnamed (suc (suc (suc (suc (suc (suc (suc zero))))))) c r t d b a k = absurd (k refl)
-unnamed (suc (suc (suc (suc (suc (suc (suc (suc s)))))))) c r t d b a k = refl
 
 array-copy-out-result : tie.Need-array-copy-out-result
 array-copy-out-result c = search needs
@@ -64,7 +52,7 @@ returns-7 c = let e : c .before .before .args .section ≡ 7 = search needs in r
 
 returns-8 : tie.Need-returns-8
 returns-8 c =
-    sym (ap rowOf (unnamed (c .before .args .section) (search needs) (search needs) (search needs) (search needs) (search needs) (search needs) (search needs)))
+    sym (ap rowOf (none-of-seven (λ n. layoutOf n ≡ []) refl (λ n. refl) (c .before .args .section) (search needs) (search needs) (search needs) (search needs) (search needs) (search needs) (search needs)))
 
 pub layout-row-spec : {M : Type 1} → statement M
 layout-row-spec =

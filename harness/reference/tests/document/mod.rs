@@ -4,6 +4,7 @@
 #![allow(dead_code)] // each test file uses some of these
 
 pub mod rows;
+pub mod spellings;
 
 use reference::event::Answer;
 use reference::text::read_plan;

@@ -1,0 +1,12 @@
+-- The laws of the spelling, about its definitions and those of the reading alone. Read in this order.
+pub mod Lists
+pub mod Members
+pub mod Order
+pub mod RecordText
+pub mod Taken
+pub mod ReadBack
+pub mod NotLonger
+pub mod Respelling
+pub mod WriteAnswers
+-- What serves the proofs of code.
+pub mod Puts

@@ -1,0 +1,77 @@
+-- The laws of the spelling, gathered: what is written is read back, so an accepted text, which its spelling never exceeds, comes to a text
+-- that comes to itself.
+use Prim.Native.Nat.{ℕ, _≤_}
+use native.Mathlib.Omega.{arith}
+use mathlib.Core.Bool.{Bool, true, false, cond, _&&_}
+use mathlib.Core.List.{List, _++_}
+use mathlib.Core.Logic.{⊎-elim}
+use mathlib.Core.Path.{_≡_, refl, ap}
+use lib.Dec.{leb}
+use lib.ListN.{length, drop}
+use borrow.Author.Tests.{le-leb, eq-eqb, ne-eqb}
+use Rattle.model.proofs.Decide.{passes, decided, decides-eq}
+use Rattle.model.proofs.Soundness.{decides-sound}
+use Rattle.plan_text.specs.TextQuestions.{maxText, textNumber}
+use Rattle.plan_text.specs.Reading.{accepted, reading}
+use Rattle.plan_text.specs.declared.Reading.{Reading}
+use Rattle.plan_text.proofs.AcceptedText.{accepted-sound}
+use Rattle.plan_text.proofs.SamePlan.{accepted-sized}
+use Rattle.moves_text.specs.Space.{filled, lengthFilled}
+use Rattle.moves_text.proofs.Enough.{plan-line-bounded}
+use Rattle.moves_text.proofs.Places.{text-number-small, text-line-small}
+use Rattle.plan_spelling.specs.Respelled.{respelledOutput}
+use Rattle.plan_spelling.specs.Spelling.{spelling}
+use Rattle.plan_spelling.specs.Writing.{isWritten, writing, spaceAfter}
+use Rattle.plan_spelling.specs.declared.WriteAnswer.the-variants.{Written, NoRoom}
+use Rattle.plan_spelling.specs.Laws.{IsAccepted, respelled, SpellingLaws}
+use Rattle.plan_spelling.proofs.Order.{records-rise}
+use Rattle.plan_spelling.proofs.ReadBack.{written-read, same-text-same-plan}
+use Rattle.plan_spelling.proofs.NotLonger.{accepted-short, never-longer}
+
+module _ (text : List ℕ) (answered : IsAccepted text) where
+  pub respelled-short : length (respelled text) ≤ maxText
+  respelled-short = omega (arith, never-longer text answered, accepted-short text answered)
+
+  -- so the writer refuses the plan of an accepted text only where the space is too short
+  pub accepted-written : (space : List ℕ) → let p = reading text .plan in
+      (writing p space .length ≡ lengthFilled (spelling p) space) × (spaceAfter p space ≡ filled (spelling p) space)
+  unfolding writing spaceAfter
+  accepted-written space =
+      let p = reading text .plan in
+      rw (passes (decides-sound p) (accepted-sound text answered), le-leb (length (spelling p)) maxText respelled-short) (go (leb (length (spelling p)) (length space)))
+    where
+      go : (b : Bool) → let p = reading text .plan in
+          let a = cond (b && true) Written NoRoom in
+          (cond (isWritten a) (length (spelling p)) 0 ≡ cond b (length (spelling p)) 0)
+          × (cond (isWritten a) (spelling p ++ drop (length (spelling p)) space) space ≡ cond b (spelling p ++ drop (length (spelling p)) space) space)
+      go true = (refl, refl)
+      go false = (refl, refl)
+
+  respelled-read : reading (respelled text) ≡ accepted (reading text .plan)
+  respelled-read = written-read (reading text .plan) (accepted-sound text answered) respelled-short (accepted-sized text answered)
+
+-- what `cellplan` prints is never longer than a text may be
+pub respelled-fits : (text : List ℕ) → length (respelledOutput text) ≤ maxText
+unfolding respelledOutput
+respelled-fits text =
+    let r = reading text in
+    ⊎-elim (λ (z : textNumber (r .answer) ≡ 0). rw (eq-eqb (textNumber (r .answer)) 0 z) (respelled-short text z))
+    (λ (ne : ¬ (textNumber (r .answer) ≡ 0)).
+    rw (ne-eqb (textNumber (r .answer)) 0 ne)
+    (omega (
+      arith,
+      plan-line-bounded (textNumber (r .answer)) (r .line) (omega (arith, text-number-small (r .answer))) (omega (arith, text-line-small text)),
+    )))
+    (decided (decides-eq (textNumber (r .answer)) 0))
+
+pub spelling-laws : SpellingLaws
+spelling-laws =
+    record {
+      rises = records-rise;
+      read-back = λ p v short. written-read p (v .1) short (v .0);
+      one-plan = λ p q v w. same-text-same-plan p q (v .1) (w .1) (v .0) (w .0);
+      unchanged = λ p v short. ap (λ (a : Reading). spelling (a .plan)) (written-read p (v .1) short (v .0));
+      never-longer = never-longer;
+      same-plan = respelled-read;
+      settled = λ text answered. ap (λ (a : Reading). spelling (a .plan)) (respelled-read text answered);
+    }

@@ -1,0 +1,14 @@
+// The one spelling of a plan, and what writing it answers, as values. What they mean is defined in specs/, and nothing runs here.
+
+// What the writer answers; its numbers are `writeNumber` of specs/Writing.
+pub enum WriteAnswer {
+    Written,
+    UnsoundPlan,
+    NoRoom,
+}
+
+// The answer, and the length of the text written; 0 where it is refused.
+pub struct Writing {
+    pub answer: WriteAnswer,
+    pub length: usize,
+}

@@ -1,0 +1,2 @@
+-- A line as it grows.
+pub mod LineGrown

@@ -1,0 +1,77 @@
+-- What is answered and written is what the writing of the cell's plan says.
+use Prim.Native.Nat.{ℕ, _≤_}
+use native.Mathlib.Omega.{arith}
+use mathlib.Core.List.{List}
+use mathlib.Core.Path.{_≡_, ap, _∙_}
+use denote.Ref.{now}
+use Rattle.plan_text.specs.TextQuestions.{maxText}
+use Rattle.plan_spelling.specs.Writing.{writing, spaceAfter}
+use Rattle.plan_spelling.specs.declared.Writing.{Writing}
+use Rattle.plan_spelling.proofs.WriteAnswers.{writing-short}
+use Rattle.cell_layout.specs.Layout.{planIn}
+use Rattle.cell_layout.specs.HostAnswers.{packed, packedWriting}
+use Rattle.cell_layout.proofs.HostAnswers.{no-write, plan-written}
+use borrow.Author.Needs.{needs}
+use Rattle.rilthoss.proofs.rilthoss_write_plan.Statement.{statement}
+use Rattle.rilthoss.proofs.rilthoss_write_plan.Tie as tie
+
+-- where the plan is written
+module _ (c : tie.After-write-plan) where
+  abbrev held : tie.After-plan-in
+  held = c .before .before
+
+  abbrev begun : tie.Start
+  begun = held .before .before .before .before
+
+  abbrev space : List ℕ
+  space = now (begun .args .space)
+
+  told : c .write-plan .result ≡ writing (planIn (now (begun .args .cell))) space
+  told = c .write-plan .ensures .0 ∙ ap (λ p. writing p space) (held .plan-in .ensures)
+
+  short : c .write-plan .result .length ≤ maxText
+  short = omega (arith, ap (λ (w : Writing). w .length) told, writing-short (planIn (now (begun .args .cell))) space)
+
+returns : tie.Need-returns
+returns c = let a = c .before .before .before .args in no-write (now (a .cell)) (omega arith) (now (a .space))
+
+plan-in-requires : tie.Need-plan-in-requires
+plan-in-requires c κs = search needs
+
+write-plan-requires : tie.Need-write-plan-requires
+write-plan-requires c κs = search needs
+
+write-number-requires : tie.Need-write-number-requires
+write-number-requires c κs = search needs
+
+cast-pack : tie.Need-cast-pack
+cast-pack c = omega (arith, short (c .before .before .before .before))
+
+pack-requires : tie.Need-pack-requires
+pack-requires c κs = search needs
+
+same-length : tie.Need-same-length
+same-length c = search needs
+
+returns-2 : tie.Need-returns-2
+returns-2 c =
+    let number = c .before .before in
+    let put = number .before .before .before in
+    let cell = now (begun put .args .cell) in
+    let w = plan-written cell (omega (arith, held put .before .if1 .left)) (space put) in (
+      c .pack .ensures ∙ ap (λ n. packed n (put .write-plan .result .length) 0) (number .write-number .ensures) ∙ ap packedWriting (told put) ∙ w .0,
+      put .write-plan .ensures .1 ∙ ap (λ p. spaceAfter p (space put)) (held put .plan-in .ensures) ∙ w .1,
+    )
+
+pub rilthoss-write-plan-spec : {M : Type 1} → statement M
+rilthoss-write-plan-spec =
+    tie.close
+    (tie.spec
+    returns
+    plan-in-requires
+    write-plan-requires
+    write-number-requires
+    cast-pack
+    pack-requires
+    same-length
+    returns-2)
