@@ -34,10 +34,14 @@ overlaid-at-then zero done new space = rw (zero-add (length done)) (overlaid-the
 overlaid-at-then (suc at) done new [] = rw (suc-add, overlaid-none done, overlaid-none new, overlaid-none (done ++ new)) refl
 overlaid-at-then (suc at) done new (c ∷ space) = rw suc-add (ap (λ (bs : List ℕ). c ∷ bs) (overlaid-at-then at done new space))
 
+-- a text that fits is laid whole
+pub overlaid-whole : (text space : List ℕ) → length text ≤ length space → overlaid text space ≡ text ++ drop (length text) space
+overlaid-whole text space h = rw (take-all (length space) text h) refl
+
 pub overlaid-fits : (text space : List ℕ) → length text ≤ length space
     → (length text ≡ lengthFilled text space) × (overlaid text space ≡ filled text space)
 overlaid-fits text space h =
-    (rw (le-leb (length text) (length space) h) refl, rw (le-leb (length text) (length space) h, take-all (length space) text h) refl)
+    (rw (le-leb (length text) (length space) h) refl, rw (le-leb (length text) (length space) h) (overlaid-whole text space h))
 
 pub nothing-filled : (text space : List ℕ) → length space < length text → (0 ≡ lengthFilled text space) × (space ≡ filled text space)
 nothing-filled text space h = (rw (lt-leb (length text) (length space) h) refl, rw (lt-leb (length text) (length space) h) refl)

@@ -6,7 +6,7 @@ pub mod RecordText
 pub mod Taken
 pub mod ReadBack
 pub mod NotLonger
-pub mod Respelling
 pub mod WriteAnswers
+pub mod Respelling
 -- What serves the proofs of code.
 pub mod Puts

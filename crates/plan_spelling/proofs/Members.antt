@@ -5,7 +5,7 @@ use native.Mathlib.Omega.{arith}
 use mathlib.Core.List.{List, [], _∷_}
 use mathlib.Core.Logic.{_⊎_, inl, ⊎-elim, _↔_}
 use mathlib.Core.Path.{_≡_, refl, sym, ap, subst, _∙_}
-use borrow.Author.Tests.{eq-eqb, ne-eqb}
+use borrow.Author.Tests.{ne-eqb}
 use Rattle.model.specs.Numbers.{InRange, at}
 use Rattle.model.specs.Limits.{maxResources, maxRows}
 use Rattle.model.specs.Plan.{noStage, boundOf, lengthOf, IsStage, stageOf, demandOf, weightOf}
@@ -20,20 +20,9 @@ use Rattle.plan_text.specs.Meaning.{line, C, R, T, S, B, A, K, Says}
 use Rattle.plan_text.specs.declared.Record.{Record}
 use Rattle.plan_text.proofs.Sections.{one-of-seven}
 use Rattle.plan_spelling.specs.Spelling.{valued, entryRecords, demandRecords, boundRecords, weightRecords, sectionRecords, planRecords}
-use Rattle.plan_spelling.proofs.Lists.{some-to, to-some}
-
-pub only : (x y : Record) → Has (x ∷ []) y → y ≡ x
-only x y (inl e) = sym e
+use Rattle.plan_spelling.proofs.Lists.{some-to, to-some, only, valued-found}
 
 -- a record of a value
-pub valued-found : (v : ℕ) (of : ℕ → Record) (x : Record) → Has (valued v of) x → (1 ≤ v) × (x ≡ of v)
-valued-found v of x h =
-    ⊎-elim (λ (e : v ≡ 0). absurd (none (rw (eq-eqb v 0 e) at h))) (λ (ne : ¬ (v ≡ 0)). (omega (arith, ne), only (of v) x (rw (ne-eqb v 0 ne) at h)))
-    (decided (decides-eq v 0))
-  where
-    none : Has [] x → ⊥
-    none k = k
-
 has-valued : (v : ℕ) (of : ℕ → Record) → 1 ≤ v → Has (valued v of) (of v)
 has-valued v of h = rw (ne-eqb v 0 (λ e. omega arith)) (inl refl)
 

@@ -1,13 +1,11 @@
 -- The keys of a plan's records rise: from one section to the next, and within each by the numbers that it runs through. So no key is
 -- there twice.
-use Prim.Native.Nat.{ℕ, _≤_, _<_}
+use Prim.Native.Nat.{ℕ, _≤_}
 use native.Mathlib.Omega.{arith}
-use mathlib.Core.Bool.{Bool, true, false, cond}
 use mathlib.Core.List.{List, [], _∷_, _++_}
 use mathlib.Core.Logic.{inl, inr}
-use mathlib.Core.Path.{_≡_, refl, sym, subst}
-use lib.Dec.{eqb}
-use Rattle.model.specs.Numbers.{InRange, at, Each}
+use mathlib.Core.Path.{_≡_, refl}
+use Rattle.model.specs.Numbers.{InRange, Each}
 use Rattle.model.specs.Plan.{boundOf, lengthOf, demandOf, weightOf}
 use Rattle.model.specs.declared.Plan.{Plan}
 use Rattle.model.proofs.Lists.{each-append}
@@ -15,45 +13,10 @@ use Rattle.plan_text.specs.Records.{sections, keyOf, Has}
 use Rattle.plan_text.specs.Meaning.{R, T, S, B, A, K}
 use Rattle.plan_text.specs.declared.Record.{Record}
 use Rattle.plan_text.proofs.Sections.{one-of-seven}
-use Rattle.plan_spelling.specs.Spelling.{valued, stageDemands, demandRecords, boundRecords, typeWeights, weightRecords}
-use Rattle.plan_spelling.specs.Spelling.{listTo, sectionRecords, planRecords}
+use Rattle.plan_spelling.specs.Spelling.{listTo, valued, stageDemands, demandRecords, boundRecords, typeWeights, weightRecords, sectionRecords, planRecords}
 use Rattle.plan_spelling.specs.Order.{Below, Rising}
-use Rattle.plan_spelling.proofs.Lists.{some-to, rising-to}
-use Rattle.plan_spelling.proofs.Members.{only, valued-found, in-section}
-
-valued-rises : (v : ℕ) (of : ℕ → Record) → Rising (valued v of)
-valued-rises v of = go (eqb v 0)
-  where
-    go : (b : Bool) → Rising (cond b [] (of v ∷ []))
-    go true = tt
-    go false = (tt, tt)
-
--- one of a family of records
-abbrev One : (ℕ → Record) → Record → Type 0
-One of x = (v : ℕ) × (x ≡ of v)
-
-one-valued : (v : ℕ) (of : ℕ → Record) (x : Record) → Has (valued v of) x → One of x
-one-valued v of x h = (v, valued-found v of x h .1)
-
-abbrev OneOf : (ℕ → ℕ → Record) → Record → Type 0
-OneOf of x = (i : ℕ) × One (of i) x
-
-one-to : (of : ℕ → ℕ → Record) (n : ℕ) (f : ℕ → List Record) → ((i : ℕ) (x : Record) → Has (f i) x → One (of i) x) → (x : Record) → Has (listTo n f) x → OneOf of x
-one-to of n f one x h = let found = some-to (λ q. q ≡ x) f n h in (found .0, one (found .0) x (found .2))
-
--- the keys of two records whose numbers are given
-below-as : (x y q r : Record) → x ≡ q → y ≡ r → Below (keyOf q) (keyOf r) → Below (keyOf x) (keyOf y)
-below-as x y q r e f h = subst (λ k. Below (keyOf k) (keyOf y)) (sym e) (subst (λ k. Below (keyOf q) (keyOf k)) (sym f) h)
-
--- the records of values under one number
-values-rise : (of : ℕ → ℕ → Record) → ((i j v w : ℕ) → i < j → Below (keyOf (of i v)) (keyOf (of j w))) → (f : ℕ → ℕ) (n : ℕ)
-    → Rising (listTo n (λ i. valued (f i) (of i)))
-values-rise of below f n =
-    rising-to (λ i. valued (f i) (of i)) n (λ i h. valued-rises (f i) (of i))
-    (λ i j h k l x y has later.
-    let a = one-valued (f i) (of i) x has in
-    let b = one-valued (f j) (of j) y later in
-    below-as x y _ _ (a .1) (b .1) (below i j (a .0) (b .0) l))
+use Rattle.plan_spelling.proofs.Lists.{some-to, only, rising-to, one-valued, OneOf, one-to, below-as, values-rise, entries-rise}
+use Rattle.plan_spelling.proofs.Members.{in-section}
 
 module _ (p : Plan) where
   stage-rises : (t k : ℕ) → Rising (stageDemands p t k)
@@ -111,9 +74,9 @@ module _ (p : Plan) where
 
   section-rises : (n : ℕ) → InRange n sections → Rising (sectionRecords p n)
   section-rises =
-      one-of-seven (λ n. Rising (sectionRecords p n)) (tt, tt) (values-rise R (λ i j v w l. inr (refl, inl l)) (at (p .capacity)) (p .resources))
-      (values-rise T (λ i j v w l. inr (refl, inl l)) (at (p .lengths)) (p .types)) demands-rise bounds-rise weights-rise
-      (values-rise K (λ i j v w l. inr (refl, inl l)) (at (p .rank)) (p .resources))
+      one-of-seven (λ n. Rising (sectionRecords p n)) (tt, tt) (entries-rise R (λ i j v w l. inr (refl, inl l)) (p .resources) (p .capacity))
+      (entries-rise T (λ i j v w l. inr (refl, inl l)) (p .types) (p .lengths)) demands-rise bounds-rise weights-rise
+      (entries-rise K (λ i j v w l. inr (refl, inl l)) (p .resources) (p .rank))
 
   pub records-rise : Rising (planRecords p)
   records-rise =

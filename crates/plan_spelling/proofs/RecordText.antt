@@ -104,6 +104,9 @@ module _ (r : Record) (s : Spellable r) where
   abbrev count : ℕ
   count = length (layoutOf (r .section))
 
+  fields-counted : length (fieldsOf r) ≡ count
+  fields-counted = length-map (take count (numbersOf r)) decimal ∙ length-take-le count (numbersOf r) (few-fields (r .section))
+
   part-each : (P : ℕ → Type 0) → P (entry letters (r .section) 0) → ((b : ℕ) → Digit b → P b) → Each (Each P) (letterOf r ∷ fieldsOf r)
   part-each P first f = ((first, tt), digits-each P f (take count (numbersOf r)))
 
@@ -127,9 +130,6 @@ module _ (r : Record) (s : Spellable r) where
 
   pub is-record : isSkipped (lineBytes r) ≡ false
   is-record = not-skipped (entry letters (r .section) 0) (fieldsOf r) (letter .record-line)
-
-  fields-counted : length (fieldsOf r) ≡ count
-  fields-counted = length-map (take count (numbersOf r)) decimal ∙ length-take-le count (numbersOf r) (few-fields (r .section))
 
   fields-numbers : Each IsNumber (fieldsOf r)
   fields-numbers = numbers-each (take count (numbersOf r)) (s .short)

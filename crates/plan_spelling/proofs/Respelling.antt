@@ -2,14 +2,12 @@
 -- that comes to itself.
 use Prim.Native.Nat.{ℕ, _≤_}
 use native.Mathlib.Omega.{arith}
-use mathlib.Core.Bool.{Bool, true, false, cond, _&&_}
-use mathlib.Core.List.{List, _++_}
+use mathlib.Core.List.{List}
 use mathlib.Core.Logic.{⊎-elim}
-use mathlib.Core.Path.{_≡_, refl, ap}
-use lib.Dec.{leb}
-use lib.ListN.{length, drop}
-use borrow.Author.Tests.{le-leb, eq-eqb, ne-eqb}
-use Rattle.model.proofs.Decide.{passes, decided, decides-eq}
+use mathlib.Core.Path.{_≡_, sym, ap}
+use lib.ListN.{length}
+use borrow.Author.Tests.{le-leb, lt-leb, eq-eqb, ne-eqb}
+use Rattle.model.proofs.Decide.{passes, decided, decides-eq, decides-le}
 use Rattle.model.proofs.Soundness.{decides-sound}
 use Rattle.plan_text.specs.TextQuestions.{maxText, textNumber}
 use Rattle.plan_text.specs.Reading.{accepted, reading}
@@ -21,12 +19,13 @@ use Rattle.moves_text.proofs.Enough.{plan-line-bounded}
 use Rattle.moves_text.proofs.Places.{text-number-small, text-line-small}
 use Rattle.plan_spelling.specs.Respelled.{respelledOutput}
 use Rattle.plan_spelling.specs.Spelling.{spelling}
-use Rattle.plan_spelling.specs.Writing.{isWritten, writing, spaceAfter}
-use Rattle.plan_spelling.specs.declared.WriteAnswer.the-variants.{Written, NoRoom}
+use Rattle.plan_spelling.specs.Writing.{writing, spaceAfter}
+use Rattle.plan_spelling.specs.declared.Writing.{Writing}
 use Rattle.plan_spelling.specs.Laws.{IsAccepted, respelled, SpellingLaws}
 use Rattle.plan_spelling.proofs.Order.{records-rise}
 use Rattle.plan_spelling.proofs.ReadBack.{written-read, same-text-same-plan}
 use Rattle.plan_spelling.proofs.NotLonger.{accepted-short, never-longer}
+use Rattle.plan_spelling.proofs.WriteAnswers.{has-room, room-short, all-written, long-refused}
 
 module _ (text : List ℕ) (answered : IsAccepted text) where
   pub respelled-short : length (respelled text) ≤ maxText
@@ -35,17 +34,18 @@ module _ (text : List ℕ) (answered : IsAccepted text) where
   -- so the writer refuses the plan of an accepted text only where the space is too short
   pub accepted-written : (space : List ℕ) → let p = reading text .plan in
       (writing p space .length ≡ lengthFilled (spelling p) space) × (spaceAfter p space ≡ filled (spelling p) space)
-  unfolding writing spaceAfter
   accepted-written space =
       let p = reading text .plan in
-      rw (passes (decides-sound p) (accepted-sound text answered), le-leb (length (spelling p)) maxText respelled-short) (go (leb (length (spelling p)) (length space)))
-    where
-      go : (b : Bool) → let p = reading text .plan in
-          let a = cond (b && true) Written NoRoom in
-          (cond (isWritten a) (length (spelling p)) 0 ≡ cond b (length (spelling p)) 0)
-          × (cond (isWritten a) (spelling p ++ drop (length (spelling p)) space) space ≡ cond b (spelling p ++ drop (length (spelling p)) space) space)
-      go true = (refl, refl)
-      go false = (refl, refl)
+      let size = length (spelling p) in
+      let good = passes (decides-sound p) (accepted-sound text answered) in
+      ⊎-elim
+      (λ (fits : size ≤ length space).
+      let w = all-written p space good (has-room size (length space) fits respelled-short) in
+      rw (le-leb size (length space) fits) (ap (λ (a : Writing). a .length) (sym (w .0)), sym (w .1)))
+      (λ (long : ¬ (size ≤ length space)).
+      let w = long-refused p space good (room-short size (length space) (omega arith)) in
+      rw (lt-leb size (length space) (omega arith)) (ap (λ (a : Writing). a .length) (sym (w .0)), sym (w .1)))
+      (decided (decides-le size (length space)))
 
   respelled-read : reading (respelled text) ≡ accepted (reading text .plan)
   respelled-read = written-read (reading text .plan) (accepted-sound text answered) respelled-short (accepted-sized text answered)

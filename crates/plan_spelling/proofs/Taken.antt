@@ -31,8 +31,8 @@ use Rattle.plan_text.proofs.FirstFailure.{draft-more}
 use Rattle.plan_text.proofs.SamePlan.{told}
 use Rattle.plan_spelling.specs.Spelling.{entryRecords, sectionRecords, planRecords}
 use Rattle.plan_spelling.specs.Order.{Below, Rising}
-use Rattle.plan_spelling.proofs.Lists.{each-has}
-use Rattle.plan_spelling.proofs.Members.{only, entry-found, demand-found, bound-found, weight-found, own-section, plan-says}
+use Rattle.plan_spelling.proofs.Lists.{only, each-has}
+use Rattle.plan_spelling.proofs.Members.{entry-found, demand-found, bound-found, weight-found, own-section, plan-says}
 use Rattle.plan_spelling.proofs.Order.{records-rise, not-below, below-section, rising-split}
 use Rattle.plan_spelling.proofs.RecordText.{Spellable}
 

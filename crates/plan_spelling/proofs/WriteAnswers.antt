@@ -1,11 +1,12 @@
 -- The writer's answer is the first failure as worded, and what its two questions come to: refused by 11, refused by 9, or written.
-use Prim.Native.Nat.{ℕ, _≤_}
+use Prim.Native.Nat.{ℕ, _≤_, _<_}
 use native.Mathlib.Omega.{arith}
 use mathlib.Core.Bool.{Bool, true, false, cond}
 use mathlib.Core.List.{List, _++_}
 use mathlib.Core.Logic.{inl, inr}
 use mathlib.Core.Path.{_≡_, refl}
 use lib.ListN.{length, drop}
+use borrow.Author.Tests.{le-leb, lt-leb}
 use Rattle.model.specs.Questions.{FirstFailure}
 use Rattle.model.specs.Soundness.{Sound, sound}
 use Rattle.model.specs.declared.Plan.{Plan}
@@ -65,3 +66,13 @@ module _ (p : Plan) (space : List ℕ) where
       go false room = omega arith
       go true (failing long) = omega arith
       go true (holding fits) = fits .1
+
+-- the test of the room, by what is compared
+pub room-short : (size room : ℕ) → room < size → hasRoom size room ≡ false
+room-short size room h = rw (lt-leb size room h) refl
+
+pub room-long : (size room : ℕ) → size ≤ room → maxText < size → hasRoom size room ≡ false
+room-long size room h k = rw (le-leb size room h, lt-leb size maxText k) refl
+
+pub has-room : (size room : ℕ) → size ≤ room → size ≤ maxText → hasRoom size room ≡ true
+has-room size room h k = rw (le-leb size room h, le-leb size maxText k) refl

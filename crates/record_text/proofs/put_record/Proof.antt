@@ -33,10 +33,9 @@ record Grown (section count : ℕ) (xs line : List ℕ) (to i : ℕ) : Type 0 wh
 
 -- a field more
 grows : (section count : ℕ) (xs line next : List ℕ) (to i end : ℕ) → Grown section count xs line to i → i < count
-    → length next ≡ length (set line to tab) → end ≤ to + 1 + 10
     → (end ≡ to + 1 + length (decimal (getD xs i 0))) × (take end next ≡ take (to + 1) (set line to tab) ++ decimal (getD xs i 0))
-    → Grown section count xs next end (i + 1)
-grows section count xs line next to i end g here same most put =
+    → end ≤ to + 1 + 10 → length next ≡ length (set line to tab) → Grown section count xs next end (i + 1)
+grows section count xs line next to i end g here put most same =
     record {
       few = g .few;
       four = g .four;
@@ -120,8 +119,8 @@ loop-again c =
     let put = c .before in
     let within = put .before .before in
     let l = within .before .loop in
-    let same : length (put .put-digits .last .1 .0) ≡ length (set (l .line) (l .to) tab) = search needs in
-    grows _ _ _ (l .line) _ (l .to) (l .i) _ (l .inv) (within .loop-test .taken) same (put .put-digits .ensures .1) (put .put-digits .ensures .0)
+    grows _ _ _ (l .line) (put .put-digits .last .1 .0) (l .to) (l .i) _ (l .inv) (within .loop-test .taken) (put .put-digits .ensures .0)
+    (put .put-digits .ensures .1) (search needs)
 
 array-write-line-3 : tie.Need-array-write-line-3 Inv-loop μ-loop
 array-write-line-3 c = search needs

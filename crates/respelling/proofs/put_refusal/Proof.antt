@@ -1,15 +1,15 @@
 -- The line, of at most 24 bytes, is made whole, and put where it fits.
 use Prim.Native.Nat.{ℕ, _≤_}
 use native.Mathlib.Omega.{arith}
-use mathlib.Core.List.{List, _++_}
+use mathlib.Core.List.{List}
 use mathlib.Core.Path.{_≡_, sym, ap, _∙_}
 use denote.Ref.{now}
 use lib.ListN.{length, take, drop, replicate}
-use lib.Seq.{take-all, take-at}
+use lib.Seq.{take-at}
 use Rattle.moves_text.specs.OutputLines.{planLine}
 use Rattle.moves_text.specs.Space.{overlaid}
 use Rattle.moves_text.proofs.Enough.{plan-line-bounded}
-use Rattle.moves_text.proofs.Overlays.{overlaid-fits, overlaid-length, nothing-filled, put-as}
+use Rattle.moves_text.proofs.Overlays.{overlaid-whole, overlaid-fits, overlaid-length, nothing-filled, put-as}
 use borrow.Author.Needs.{needs}
 use Rattle.respelling.proofs.put_refusal.Statement.{statement}
 use Rattle.respelling.proofs.put_refusal.Tie as tie
@@ -17,7 +17,7 @@ use Rattle.respelling.proofs.put_refusal.Tie as tie
 -- a text laid over a longer list, taken again
 taken-back : (text space : List ℕ) (n : ℕ) → length text ≤ length space → n ≡ length text → take n (overlaid text space) ≡ text
 taken-back text space n fits size =
-    ap (λ bs. take n (bs ++ drop (length text) space)) (take-all (length space) text fits) ∙ take-at text (drop (length text) space) n (sym size)
+    ap (take n) (overlaid-whole text space fits) ∙ take-at text (drop (length text) space) n (sym size)
 
 -- where the line is made
 module _ (c : tie.After-put-plan-line) where

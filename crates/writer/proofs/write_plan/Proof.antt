@@ -1,36 +1,17 @@
 -- Refused where the plan is not sound or the measured text has no room; where it has room, what is put is what is written.
-use Prim.Native.Nat.{ℕ, _≤_, _<_}
+use Prim.Native.Nat.{_≤_}
 use native.Mathlib.Omega.{arith}
-use mathlib.Core.Bool.{true, false}
-use mathlib.Core.List.{List, _++_}
-use mathlib.Core.Path.{_≡_, refl, sym, ap, _∙_}
+use mathlib.Core.Path.{sym, _∙_}
 use denote.Ref.{now}
-use lib.ListN.{length, drop}
-use borrow.Author.Tests.{not-true, not-false, le-leb, lt-leb}
-use Rattle.plan_text.specs.TextQuestions.{maxText}
-use lib.Seq.{take-all}
-use Rattle.moves_text.specs.Space.{overlaid}
+use lib.ListN.{length}
+use borrow.Author.Tests.{not-true, not-false}
+use Rattle.moves_text.proofs.Overlays.{overlaid-whole}
 use Rattle.plan_spelling.specs.Spelling.{spelling}
 use Rattle.plan_spelling.specs.declared.WriteAnswer.the-variants.{Written}
-use Rattle.plan_spelling.specs.Writing.{hasRoom}
-use Rattle.plan_spelling.proofs.WriteAnswers.{unsound-refused, long-refused, all-written}
+use Rattle.plan_spelling.proofs.WriteAnswers.{unsound-refused, long-refused, all-written, room-short, room-long, has-room}
 use borrow.Author.Needs.{needs}
 use Rattle.writer.proofs.write_plan.Statement.{statement}
 use Rattle.writer.proofs.write_plan.Tie as tie
-
--- the test of the room, by what was compared
-room-short : (size room : ℕ) → room < size → hasRoom size room ≡ false
-room-short size room h = rw (lt-leb size room h) refl
-
-room-long : (size room : ℕ) → size ≤ room → maxText < size → hasRoom size room ≡ false
-room-long size room h k = rw (le-leb size room h, lt-leb size maxText k) refl
-
--- a text that fits is laid whole
-overlaid-whole : (text space : List ℕ) → length text ≤ length space → overlaid text space ≡ text ++ drop (length text) space
-overlaid-whole text space h = ap (λ bs. bs ++ drop (length text) space) (take-all (length space) text h)
-
-has-room : (size room : ℕ) → size ≤ room → size ≤ maxText → hasRoom size room ≡ true
-has-room size room h k = rw (le-leb size room h, le-leb size maxText k) refl
 
 is-sound-requires : tie.Need-is-sound-requires
 is-sound-requires c κs = search needs
