@@ -7,6 +7,7 @@ use mathlib.Core.List.{List, [], _∷_}
 use mathlib.Core.Logic.{_≢_, ⊎-elim, _↔_}
 use mathlib.Core.Path.{_≡_, refl, sym, ap, subst, _∙_}
 use lib.ListN.{length, length-take}
+use Rattle.model.specs.Questions.{AllHold}
 use Rattle.model.specs.Numbers.{Each}
 use Rattle.model.specs.Plan.{demandOf, weightOf}
 use Rattle.model.specs.Jobs.{Active, Agreeing}
@@ -15,7 +16,6 @@ use Rattle.model.specs.Upstream.{UpstreamRule, check}
 use Rattle.model.specs.declared.Check.the-variants.{Meets}
 use Rattle.model.specs.declared.Plan.{Plan}
 use Rattle.model.specs.declared.Job.{Job}
-use Rattle.model.proofs.Decide.{AllHold}
 use Rattle.model.proofs.Sums.{over-stages-jobs}
 use Rattle.model.proofs.Jobs.{none-active}
 use Rattle.model.proofs.Upstream.{check-exact}
@@ -81,6 +81,10 @@ some-move p rule t agrees = (
   λ left. let o = movable-job p t rule agrees left in record { event = moveOf p (o .here .item); move = job-moves p (o .here .item); admitted = o .admitted },
 )
 
+-- what else the theorem takes of the rule
+rule-sound : (p : Plan) → UpstreamRule p → Sound p
+rule-sound p rule = rule .sound
+
 pub emptying-theorem : EmptyingTheorem
 emptying-theorem p rule events moves are-moves =
     record {
@@ -100,10 +104,10 @@ emptying-theorem p rule events moves are-moves =
     end = run p between moves
 
     first : Consistent p between
-    first = run-consistent p (rule .sound) start events (start-consistent p)
+    first = run-consistent p (rule-sound p rule) start events (start-consistent p)
 
     last : Consistent p end
-    last = run-consistent p (rule .sound) between moves first
+    last = run-consistent p (rule-sound p rule) between moves first
 
     jobs : jobsOf (end .list) ≡ end .ledger .jobs
     jobs = jobs-of-ledger p end last

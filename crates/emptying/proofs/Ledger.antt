@@ -6,12 +6,13 @@ use mathlib.Core.Bool.{false}
 use mathlib.Core.List.{List}
 use mathlib.Core.Logic.{⊎-elim}
 use mathlib.Core.Path.{_≡_, refl, sym, ap, subst, _∙_}
+use Rattle.model.specs.Questions.{AllHold}
 use Rattle.model.specs.Plan.{demandOf}
 use Rattle.model.specs.Jobs.{unitsHeld, HasNext, advancedAt, removed, Active, jobOf, loadedJob, advancedJob, AtStage, Agreeing}
 use Rattle.model.specs.Soundness.{Sound}
 use Rattle.model.specs.declared.Plan.{Plan}
 use Rattle.model.specs.declared.Job.{Job}
-use Rattle.model.proofs.Decide.{AllHold, passes}
+use Rattle.model.proofs.Decide.{passes}
 use Rattle.model.proofs.Sums.{over-stages-added, over-stages-removed, over-stages-moved}
 use Rattle.model.proofs.Jobs.{decides-active, Found}
 use Rattle.events.specs.JobList.{jobsOf, listOf, Agrees}

@@ -9,7 +9,7 @@ use mathlib.Core.Path.{_≡_, refl, sym, ap, subst, subst⁻¹, _∙_}
 use lib.ListN.{length, length-append, length-take}
 use Rattle.model.specs.Limits.{maxNumber, maxJobs}
 use Rattle.model.specs.Numbers.{InRange, Each, Distinct}
-use Rattle.model.specs.Questions.{Question, Condition, FirstFailure}
+use Rattle.model.specs.Questions.{Question, Condition, AllHold, FirstFailure}
 use Rattle.model.specs.Plan.{lengthOf}
 use Rattle.model.specs.Jobs.{KeepsCapacities, KeepsRows, Exceeded, Broken, exceeded, broken, Active, jobOf, loadedJob, advancedJob}
 use Rattle.model.specs.Jobs.{HasNext, IsLast, advancedAt, removedAt, advanced, removed, Numbered, AtStage, Agreeing, numbers}
@@ -17,7 +17,7 @@ use Rattle.model.specs.Soundness.{Sound}
 use Rattle.model.specs.declared.Plan.{Plan}
 use Rattle.model.specs.declared.Job.{Job}
 use Rattle.model.proofs.Decide.{Decides, decides-iff, decides-not, decides-lt, decides-eq, decides-range}
-use Rattle.model.proofs.Decide.{Answers, AllHold, done, asked, first-failure, accepted, all-hold}
+use Rattle.model.proofs.Decide.{Answers, done, asked, first-failure, accepted, all-hold}
 use Rattle.model.proofs.Lists.{append-each, each-at, each-removed, each-moved}
 use Rattle.model.proofs.Jobs.{distinct-moved, distinct-removed, distinct-added, Found, found}
 use Rattle.model.proofs.Jobs.{decides-active, decides-capacities, decides-rows, lowest-exceeded, worst-broken}

@@ -1,6 +1,7 @@
 -- The laws of the job list, the events and the drain. Read in this order.
 pub mod JobLists
 pub mod Answers
+pub mod Reuse
 pub mod Excess
 pub mod Moves
 pub mod Drain

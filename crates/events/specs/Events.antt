@@ -171,6 +171,11 @@ listAfter p t e = cond (isAdmitted (answer p t e)) (listOf (jobsAfter p (jobsOf 
 abbrev pub listOutcome : Plan → JobList → Event → ListOutcome
 listOutcome p t e = record { answer = answer p t e; list = listAfter p t e }
 
+-- the number may be used again (document 01): it is not active, and so a load of it is not answered 14, whatever else fails
+pub record Reusable (p : Plan) (t : JobList) (n : ℕ) : Type 0 where
+  pub inactive : ¬ Active n (jobsOf t)
+  pub loadable : (k : ℕ) → answerNumbers (answer p t (Load n k)) .0 ≢ 14
+
 -- demand 2 for one event: it is admitted exactly when it is allowed, the table is then the one that the model names and
 -- agrees with the plan; otherwise the table is unchanged and the answer names the first question that failed
 pub record Judged (p : Plan) (t : JobList) (e : Event) : Type 0 where

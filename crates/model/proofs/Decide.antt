@@ -11,7 +11,7 @@ use lib.ListN.{drop}
 use lib.Dec.{leb, ltb, eqb}
 use borrow.Author.Tests.{leb-true, leb-false, eqb-true, eqb-false, eq-eqb, ne-eqb}
 use Rattle.model.specs.Numbers.{InRange, inRange, entry, allTo, someTo, lowest, Lowest, greatest, Greatest, Each, each}
-use Rattle.model.specs.Questions.{Question, Condition, answerOf, FirstFailure}
+use Rattle.model.specs.Questions.{Question, Condition, answerOf, AllHold, FirstFailure}
 
 pub data Decides (P : Type 0) : Bool → Type 0 where
   holding : P → Decides P true
@@ -259,10 +259,6 @@ pub data Answers {A : Type 0} (isOk : A → Bool) : List (Question A) → List (
       → Decides (c .holds) (q .met) → ((¬ c .holds) → c .refusal (q .refusal)) → isOk (q .refusal) ≡ false → (c .holds → Answers isOk qs cs)
       → Answers isOk (q ∷ qs) (c ∷ cs)
 
-abbrev pub AllHold : {A : Type 0} → List (Condition A) → Type 0
-AllHold [] = Unit {0}
-AllHold (c ∷ cs) = c .holds × AllHold cs
-
 -- one question, and others after it
 pub choose : {A P : Type 0} {b : Bool} (F R : A → Type 0) (x y : A) → Decides P b → ((¬ P) → R y) → (P → F x)
     → ((¬ P) × R (cond b x y)) ⊎ (P × F (cond b x y))
@@ -275,6 +271,14 @@ pub failure-append : {A : Type 0} (Ok : A → Type 0) (cs ds : List (Condition A
 failure-append Ok [] ds a h = h
 failure-append Ok (c ∷ cs) ds a (inl h) = inl h
 failure-append Ok (c ∷ cs) ds a (inr h) = inr (h .0, failure-append Ok cs ds a (h .1))
+
+pub hold-split : {A : Type 0} (cs ds : List (Condition A)) → AllHold (cs ++ ds) → AllHold cs × AllHold ds
+hold-split [] ds h = (tt, h)
+hold-split (c ∷ cs) ds h = let rest = hold-split cs ds (h .1) in ((h .0, rest .0), rest .1)
+
+pub hold-append : {A : Type 0} (cs ds : List (Condition A)) → AllHold cs → AllHold ds → AllHold (cs ++ ds)
+hold-append [] ds h k = k
+hold-append (c ∷ cs) ds h k = (h .0, hold-append cs ds (h .1) k)
 
 module _ {A : Type 0} (isOk : A → Bool) (ok : A) where
   -- what is wanted of the acceptance is wanted only where all questions are met

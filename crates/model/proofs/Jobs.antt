@@ -2,7 +2,7 @@
 -- names; the tests on a list decide whether it agrees with the plan; and the row that is named is the one exceeded by the most.
 use Prim.Native.Nat.{ℕ, _-_, _≤_, _<_}
 use native.Mathlib.Omega.{arith}
-use mathlib.Core.Bool.{false}
+use mathlib.Core.Bool.{Bool, false, cond}
 use mathlib.Core.List.{List, [], _∷_, _++_}
 use mathlib.Core.Logic.{_≢_, _⊎_, inl, inr, ⊎-elim, ⊎-map}
 use mathlib.Core.Path.{_≡_, refl, sym, ap, subst, _∙_}
@@ -120,6 +120,20 @@ decides-active n (j ∷ js) =
     decides-iff (⊎-elim (active-here js) (active-later j)) active-cases (decides-or (decides-eq (j .number) n) (decides-active n js))
 
 -- the tests on a list decide its conditions
+-- where numbers differ, none is active once its job is removed
+pub removed-inactive : (n : ℕ) (js : List Job) → Distinct (numbers js) → ¬ Active n (removed n js)
+removed-inactive n [] d = none-active
+removed-inactive n (j ∷ js) d = go (removed-inactive n js (d .1)) (decides-eq (j .number) n)
+  where
+    others : j .number ≡ n → ¬ Active n js
+    others e a =
+        each-at (OtherJob (j .number)) (a .here .before) (a .here .item) (a .here .after)
+        (subst (Each (OtherJob (j .number))) (a .here .whole) (each-number (Other (j .number)) js (d .0))) (a .numbered ∙ sym e)
+
+    go : (¬ Active n (removed n js)) → {b : Bool} → Decides (j .number ≡ n) b → ¬ Active n (cond b js (j ∷ removed n js))
+    go later (holding e) a = others e a
+    go later (failing ne) a = ⊎-elim ne later (active-cases a)
+
 pub decides-distinct : (ns : List ℕ) → Decides (Distinct ns) (distinct ns)
 decides-distinct [] = holding tt
 decides-distinct (n ∷ ns) = decides-each (λ m. decides-not (decides-eq m n)) ns and decides-distinct ns

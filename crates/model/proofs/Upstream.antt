@@ -8,7 +8,7 @@ use mathlib.Core.Logic.{_↔_}
 use mathlib.Core.Path.{_≡_, refl, ap}
 use lib.Dec.{eqb}
 use Rattle.model.specs.Numbers.{InRange, inRange, Lowest}
-use Rattle.model.specs.Questions.{FirstFailure}
+use Rattle.model.specs.Questions.{AllHold, FirstFailure}
 use Rattle.model.specs.Plan.{capacityOf, rankOf, boundOf, lengthOf, demandOf, weightOf}
 use Rattle.model.specs.Upstream.{RankedUpTo, UpstreamOf, OneUnit, OneUnits, UpstreamRow, UpstreamBound, UpstreamRule}
 use Rattle.model.specs.Upstream.{checkConditions, checkQuestions, check, isMeets, CheckSays}
@@ -17,7 +17,7 @@ use Rattle.model.specs.declared.Plan.{Plan}
 use Rattle.model.specs.declared.Check.the-variants.{Meets, NotOneUnit, WrongWeight, WrongBound}
 use Rattle.model.proofs.Decide.{Decides, holding, failing, decides-iff, _and_, decides-le, decides-lt, decides-eq, decides-range}
 use Rattle.model.proofs.Decide.{decides-all, decides-some, decides-lowest, lowest-found}
-use Rattle.model.proofs.Decide.{Answers, AllHold, done, asked, first-failure, accepted, all-hold}
+use Rattle.model.proofs.Decide.{Answers, done, asked, first-failure, accepted, all-hold}
 use Rattle.model.proofs.Sums.{decides-single}
 use Rattle.model.proofs.Soundness.{decides-stages, decides-sound}
 

@@ -24,6 +24,11 @@ pub record Condition (A : Type 0) : Type 1 where
 abbrev pub asks : {A : Type 0} → Type 0 → (A → Type 0) → Condition A
 asks P says = record { holds = P; refusal = says }
 
+-- every question is met
+abbrev pub AllHold : {A : Type 0} → List (Condition A) → Type 0
+AllHold [] = Unit {0}
+AllHold (q ∷ qs) = q .holds × AllHold qs
+
 -- the answer is that of the first question that fails, and `ok` says what it is where none does
 abbrev pub FirstFailure : {A : Type 0} → (A → Type 0) → List (Condition A) → A → Type 0
 FirstFailure ok [] a = ok a

@@ -1,20 +1,20 @@
 -- The input's two parts are those that the mark divides: a text is its lines put together, so by induction over them either a
--- line is the mark, or it comes before both parts of what follows.
+-- line is the mark, or it comes before both parts of what follows. And only these: the first mark stands where the plan ends.
 use Prim.Native.Nat.{ℕ, suc, _+_, _-_}
 use native.Mathlib.Omega.{arith}
 use mathlib.Core.Bool.{Bool, true, false, cond, false≢true}
-use mathlib.Core.List.{List, [], _∷_, _++_, append-assoc}
+use mathlib.Core.List.{List, [], _∷_, _++_, append-assoc, append-nil}
 use mathlib.Core.Logic.{_≢_, inl, inr}
 use mathlib.Core.Path.{_≡_, refl, sym, ap, _∙_}
-use lib.ListN.{length, take, drop, drop-of-length-le}
-use lib.Seq.{take-all, take-append-add, drop-append-add}
+use lib.ListN.{length, take, drop, length-append, drop-of-length-le}
+use lib.Seq.{take-all, take-append-seam, take-append-add, drop-append-add}
 use borrow.Author.Tests.{eqb-true}
 use Rattle.model.specs.Numbers.{Each}
 use Rattle.plan_text.specs.Lines.{Line, lineEnd, splitBy, lastLine, linesIn, linesOf}
 use Rattle.plan_text.proofs.Split.{joined, split-some, split-joined, split-clean, split-alone, split-then}
 use Rattle.plan_text.proofs.LineByLine.{line-then}
 use Rattle.moves_text.specs.Quoted.{quoted}
-use Rattle.moves_text.specs.Division.{eventsMark, Divides, isE, lengthBefore, planLength, planPart, eventPart}
+use Rattle.moves_text.specs.Division.{eventsMark, Divides, isE, isMark, lengthBefore, planLength, planPart, eventPart}
 
 -- bytes of one line
 abbrev Clean : List ℕ → Type 0
@@ -90,3 +90,65 @@ parts-divided (p ∷ q ∷ ps) clean =
 pub input-divided : (input : List ℕ) → Divides input (planPart input) (eventPart input)
 unfolding planLength
 input-divided input = rw (split-joined lineEnd input) at (parts-divided (splitBy lineEnd input) (split-clean lineEnd input))
+
+-- the bytes of lines, with the LFs that they have
+abbrev bytesIn : List Line → ℕ
+bytesIn [] = 0
+bytesIn (l ∷ ls) = length (l .bytes) + cond (l .ended) 1 0 + bytesIn ls
+
+last-size : (p : List ℕ) → bytesIn (lastLine p) ≡ length p
+last-size [] = refl
+last-size (b ∷ bs) = omega arith
+
+parts-size : (ps : List (List ℕ)) → bytesIn (linesIn ps) ≡ length (joined lineEnd ps)
+parts-size [] = refl
+parts-size (p ∷ []) = last-size p
+parts-size (p ∷ q ∷ ps) = omega (arith, parts-size (q ∷ ps), length-append p (lineEnd ∷ joined lineEnd (q ∷ ps)))
+
+lines-size : (text : List ℕ) → bytesIn (linesOf text) ≡ length text
+lines-size text = rw (split-joined lineEnd text) at (parts-size (splitBy lineEnd text))
+
+-- a line is the mark exactly when the test passes
+is-mark : (bytes : List ℕ) (lf : Bool) → isMark (record { bytes = bytes; ended = lf }) ≡ true → record { bytes = bytes; ended = lf } ≡ eventsMark
+is-mark bytes true e = rw (mark-told bytes e) refl
+is-mark bytes false e = absurd (false≢true e)
+
+other-line : (l : Line) → l ≢ eventsMark → isMark l ≡ false
+other-line l other = go (isMark l) refl
+  where
+    go : (b : Bool) → isMark l ≡ b → isMark l ≡ false
+    go true e = absurd (other (is-mark (l .bytes) (l .ended) e))
+    go false e = e
+
+-- lines of which none is the mark, before lines that begin with it or are none
+before-mark : (ls rest : List Line) → lengthBefore rest ≡ 0 → Each (λ (l : Line). l ≢ eventsMark) ls → lengthBefore (ls ++ rest) ≡ bytesIn ls
+before-mark [] rest none h = none
+before-mark (l ∷ ls) rest none h = rw (other-line l (h .0)) (omega (arith, before-mark ls rest none (h .1)))
+
+module _ (input plan events : List ℕ) where
+  -- whatever divides an input are its parts
+  divided-so : Divides input plan events → (planPart input ≡ plan) × (eventPart input ≡ events)
+  unfolding planLength
+  divided-so (inl m) =
+      let size : planLength input ≡ length plan =
+      ap lengthBefore (m .lines) ∙ before-mark (linesOf plan) (eventsMark ∷ linesOf events) refl (m .first) ∙ lines-size plan in (
+        rw (size, m .whole, append-assoc) (take-append-seam plan (quoted "E\n" ++ events)),
+        rw (size, m .whole, append-assoc) (drop-append-add plan (quoted "E\n" ++ events) 2),
+      )
+  divided-so (inr u) =
+      let size : planLength input ≡ length input =
+      ap (λ text. lengthBefore (linesOf text)) (u .whole)
+      ∙ ap lengthBefore (sym (append-nil (linesOf plan)))
+      ∙ before-mark (linesOf plan) [] refl (u .first)
+      ∙ lines-size plan
+      ∙ ap length (sym (u .whole)) in (
+        rw size (take-all (length input) input (omega arith) ∙ u .whole),
+        rw size (drop-of-length-le input {i = length input + 2} (omega arith) ∙ sym (u .none)),
+      )
+
+-- so two divisions of one input are equal
+pub divides-one : (input plan events plan′ events′ : List ℕ) → Divides input plan events → Divides input plan′ events′ → (plan ≡ plan′) × (events ≡ events′)
+divides-one input plan events plan′ events′ d e =
+    let one = divided-so input plan events d in
+    let other = divided-so input plan′ events′ e in
+    (sym (one .0) ∙ other .0, sym (one .1) ∙ other .1)

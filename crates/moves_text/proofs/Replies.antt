@@ -34,14 +34,6 @@ events-parts [] ys = refl
 events-parts (none ∷ xs) ys = events-parts xs ys
 events-parts (some e ∷ xs) ys = ap (λ es. e ∷ es) (events-parts xs ys)
 
-pub printed-parts : (n : ℕ) (xs ys : List Reply) → printedFrom n (xs ++ ys) ≡ printedFrom n xs ++ printedFrom (n + length xs) ys
-printed-parts n [] ys = ap (λ k. printedFrom k ys) (omega arith)
-printed-parts n (r ∷ xs) ys =
-    let line = eventLine n (r .number) (r .place) (r .active) in
-    let later : n + 1 + length xs ≡ n + length (r ∷ xs) = omega arith in
-    ap (λ out. line ++ out) (printed-parts (n + 1) xs ys ∙ ap (λ k. printedFrom (n + 1) xs ++ printedFrom k ys) later)
-    ∙ sym (append-assoc line (printedFrom (n + 1) xs) (printedFrom (n + length (r ∷ xs)) ys))
-
 -- no event is answered 41
 no-malformed : (a : Answer) → eqb (answerNumbers a .0) 41 ≡ false
 no-malformed Admitted = refl

@@ -28,7 +28,7 @@ pub record Unmarked (input plan events : List ℕ) : Type 0 where
 abbrev pub Divides : List ℕ → List ℕ → List ℕ → Type 0
 Divides input plan events = Marked input plan events ⊎ Unmarked input plan events
 
--- the same, computed (`input-divided`)
+-- the same, computed (`input-divided`; and no other parts divide the input, `divides-one`)
 abbrev pub isE : List ℕ → Bool
 isE [] = false
 isE (b ∷ []) = eqb b 69

@@ -24,19 +24,11 @@ use Rattle.model.proofs.Jobs.{row-test}
 use Rattle.model.proofs.Lists.{zeros-at, every-each}
 use Rattle.model.proofs.Sums.{over-jobs-append, over-jobs-moved, over-jobs-removed, over-jobs-zero}
 use Rattle.events.specs.Events.{keptAnswer}
-use Rattle.parts.specs.Parts.{tabulate, sumsOf, ceilingsOf, lowestAfter, greatestAfter, worstAfter, keptAfter}
+use Rattle.parts.specs.Parts.{tabulate, sumsOf, ceilingsOf, lowestAfter, greatestAfter, worstAfter, Exchanged, Exchange, RowTestApplies, keptAfter}
 use Rattle.parts.specs.declared.Sums.{Sums}
 use Rattle.parts.specs.declared.Ceilings.{Ceilings}
 use Rattle.parts.specs.declared.WorstRow.{WorstRow}
 use Rattle.parts.proofs.FixedWidth.{at-tabulate, lowest-lanes, greatest-lanes}
-
--- the amounts of the jobs afterwards are those of the jobs now with the old given back and the new taken
-abbrev Exchanged : (ℕ → ℕ → ℕ) → List Job → List Job → ℕ → ℕ → Type 0
-Exchanged f js next old new = (overJobs f next + old ≡ overJobs f js + new) × (old ≤ overJobs f js)
-
-pub record Exchange (p : Plan) (js next : List Job) (old new : Stage) : Type 0 where
-  pub units : (r : ℕ) → Exchanged (demandOf p r) js next (at (old .demand) r) (at (new .demand) r)
-  pub rows : (w : ℕ) → Exchanged (weightOf p w) js next (at (old .weight) w) (at (new .weight) w)
 
 -- the three exchanges: none; a job is added, with nothing given back; a job moves on from one stage to the next
 module _ (p : Plan) (js : List Job) where
@@ -129,16 +121,19 @@ module _ (p : Plan) (sound : Sound p) where
       worst-exchanged =
           greatest-after maxRows (p .rows) (weightOf p) (old .weight) (new .weight) (p .bound) (sound .rows) (e .rows) weight-beyond
 
-      -- so it says of the jobs afterwards what the row test says as worded
-      pub row-tested : Each (AtStage p) next → let r = worstAfter (sumsOf p js) old new (ceilingsOf p) in RowTest p next (r .row) (r .excess)
-      row-tested staged = subst⁻¹ (λ (r : WorstRow). RowTest p next (r .row) (r .excess)) worst-exchanged (row-test p next staged)
-
       pub kept-exchanged : keptAfter (sumsOf p js) old new (ceilingsOf p) ≡ keptAnswer (exceeded p next) (broken p next)
       unfolding keptAfter sumsOf exceeded
       kept-exchanged =
           ap₂ keptAnswer
           (lowest-after maxResources (p .resources) (demandOf p) (old .demand) (new .demand) (p .capacity) (sound .resources .1) (e .units) demand-beyond)
           (ap (λ (w : WorstRow). w .row) worst-exchanged)
+
+-- so the row test says of the jobs afterwards what it says as worded
+pub row-tested : (p : Plan) (js next : List Job) (s : Sums) (old new : Stage) (c : Ceilings) → RowTestApplies p js next s old new c
+    → let r = worstAfter s old new c in RowTest p next (r .row) (r .excess)
+row-tested p js next s old new c h =
+    rw (h .sums, h .ceilings)
+    (subst⁻¹ (λ (r : WorstRow). RowTest p next (r .row) (r .excess)) (worst-exchanged p (h .sound) js next old new (h .exchange)) (row-test p next (h .staged)))
 
 -- the two tests with what is equal
 module _ {s s′ : Sums} {c c′ : Ceilings} (sums : s ≡ s′) (ceilings : c ≡ c′) where

@@ -7,10 +7,11 @@ use mathlib.Core.Path.{_≡_}
 use lib.ListN.{length, take, drop, getD, set, replicate}
 use lib.Dec.{leb, ltb, eqb}
 use Rattle.model.specs.Limits.{maxResources, maxRows, maxAllStages, maxNumber, maxJobs}
-use Rattle.model.specs.Numbers.{InRange, inRange, at, sumTo, lowest, greatest, each}
+use Rattle.model.specs.Numbers.{InRange, inRange, at, sumTo, lowest, greatest, Each, each}
 use Rattle.model.specs.Questions.{ask, answerOf}
 use Rattle.model.specs.Plan.{lengthOf, demandOf, weightOf}
-use Rattle.model.specs.Jobs.{noJob, overJobs, hasNumber, jobOf, numbers, distinct, fits}
+use Rattle.model.specs.Jobs.{noJob, overJobs, hasNumber, jobOf, numbers, AtStage, distinct, fits}
+use Rattle.model.specs.Soundness.{Sound}
 use Rattle.model.specs.declared.Plan.{Plan}
 use Rattle.model.specs.declared.Stage.{Stage}
 use Rattle.model.specs.declared.Job.{Job}
@@ -84,6 +85,23 @@ greatestAfter n amounts old new ceilings =
 -- the row exceeded by the most once one stage is exchanged for another, and its excess: what change request S-2 promises to all who use the row test
 abbrev pub worstAfter : Sums → Stage → Stage → Ceilings → WorstRow
 worstAfter s old new c = greatestAfter maxRows (s .rows) (old .weight) (new .weight) (c .bound)
+
+-- the amounts of the jobs afterwards are those of the jobs now with the old given back and the new taken
+abbrev pub Exchanged : (ℕ → ℕ → ℕ) → List Job → List Job → ℕ → ℕ → Type 0
+Exchanged f js next old new = (overJobs f next + old ≡ overJobs f js + new) × (old ≤ overJobs f js)
+
+pub record Exchange (p : Plan) (js next : List Job) (old new : Stage) : Type 0 where
+  pub units : (r : ℕ) → Exchanged (demandOf p r) js next (at (old .demand) r) (at (new .demand) r)
+  pub rows : (w : ℕ) → Exchanged (weightOf p w) js next (at (old .weight) w) (at (new .weight) w)
+
+-- where `worstAfter` is the row test as worded, `RowTest`, of the jobs afterwards (`row-tested`): the plan is sound, the sums are those over the jobs
+-- now, the ceilings are the plan's, exchanging the stages leads to the jobs afterwards, and each of these stands at a stage of the plan
+pub record RowTestApplies (p : Plan) (js next : List Job) (s : Sums) (old new : Stage) (c : Ceilings) : Type 0 where
+  pub sound : Sound p
+  pub sums : s ≡ sumsOf p js
+  pub ceilings : c ≡ ceilingsOf p
+  pub exchange : Exchange p js next old new
+  pub staged : Each (AtStage p) next
 
 -- questions 18 and 19 once one stage is exchanged for another
 unfoldable pub keptAfter : Sums → Stage → Stage → Ceilings → Answer

@@ -9,12 +9,12 @@ use mathlib.Core.Logic.{_≢_, inl, inr}
 use mathlib.Core.Path.{_≡_, refl, sym, ap, subst, _∙_}
 use lib.ListN.{length, take, length-append}
 use Rattle.model.specs.Numbers.{InRange, Each}
-use Rattle.model.specs.Questions.{Condition, FirstFailure}
-use Rattle.model.proofs.Decide.{AllHold}
+use Rattle.model.specs.Questions.{Condition, AllHold, FirstFailure}
+use Rattle.model.proofs.Decide.{hold-split}
 use Rattle.model.proofs.Lists.{each-map}
 use Rattle.plan_text.specs.Lines.{Line, lineEnd, tab, splitBy, linesIn, linesOf, isSkipped, parts, letterIn, fieldsIn}
 use Rattle.plan_text.specs.Records.{sections, sectionOf, IsNumber, numberOn, fieldsRead, recordIn, keyOf, Has}
-use Rattle.plan_text.specs.TextQuestions.{maxText, textNumber, IsRecord, recordsOf, WellFielded, lineConditions, conditionsFrom, textConditions}
+use Rattle.plan_text.specs.TextQuestions.{maxText, textNumber, IsRecord, recordsOf, WellFielded, startAfter, lineConditions, linesConditions, lastConditions, textConditions}
 use Rattle.plan_text.specs.Reading.{reading}
 use Rattle.plan_text.specs.declared.Record.{Record}
 use Rattle.plan_text.specs.declared.Reading.{Reading}
@@ -22,6 +22,7 @@ use Rattle.plan_text.proofs.Split.{joined, split-some, split-joined}
 use Rattle.plan_text.proofs.LineForm.{few-fields, numbers-told, numbers-four, number-below, record-in}
 use Rattle.plan_text.proofs.RecordLists.{has-each}
 use Rattle.plan_text.proofs.FirstFailure.{reading-first-failure}
+use Rattle.plan_text.proofs.AcceptedText.{accepted-sound}
 use Rattle.plan_text.proofs.SamePlan.{accepted-says}
 use Rattle.moves_text.specs.Written.{decimal}
 use Rattle.moves_text.proofs.Decimals.{decimal-short}
@@ -45,10 +46,6 @@ append-refusing : (cs ds : List (Condition Reading)) → Refusing cs → Refusin
 append-refusing [] ds h k = k
 append-refusing (c ∷ cs) ds h k = (h .0, append-refusing cs ds (h .1) k)
 
-hold-append : {A : Type 0} (cs ds : List (Condition A)) → AllHold (cs ++ ds) → AllHold cs × AllHold ds
-hold-append [] ds h = (tt, h)
-hold-append (c ∷ cs) ds h = let rest = hold-append cs ds (h .1) in ((h .0, rest .0), rest .1)
-
 -- what an accepted text's lines are
 record Taken (l : Line) : Type 0 where
   pub ended : l .ended ≡ true
@@ -56,43 +53,48 @@ record Taken (l : Line) : Type 0 where
   pub fielded : IsRecord l → WellFielded l
 
 module _ (text : List ℕ) where
-  line-refusing : (rs : List Record) (n : ℕ) (l : Line) → Refusing (lineConditions text rs n l)
-  line-refusing rs n l = (
-    λ a s e. omega (arith, s .number),
+  line-refusing : (rs : List Record) (n from : ℕ) (l : Line) → Refusing (lineConditions text rs n from l)
+  line-refusing rs n from l = (
+    λ a s e. omega (arith, s .says .number),
     (
-      λ a s e. omega (arith, s .number),
+      λ a s e. omega (arith, s .says .number),
       (
-        λ a s e. omega (arith, s .number),
-        (λ a s e. omega (arith, s .number), (λ a s e. omega (arith, s .number), (λ a s e. omega (arith, s .number), tt))),
+        λ a s e. omega (arith, s .says .number),
+        (λ a s e. omega (arith, s .says .number), (λ a s e. omega (arith, s .says .number), (λ a s e. omega (arith, s .says .number), tt))),
       ),
     ),
   )
 
-  refusing-from : (ls : List Line) (rs : List Record) (n : ℕ) → Refusing (conditionsFrom text rs n ls)
-  refusing-from [] rs n = (λ a s e. omega (arith, s .number), tt)
-  refusing-from (l ∷ ls) rs n =
-      append-refusing (lineConditions text rs (n + 1) l) (conditionsFrom text (rs ++ recordsOf (l ∷ [])) (n + 1) ls) (line-refusing rs (n + 1) l) (refusing-from ls (rs ++ recordsOf (l ∷ [])) (n + 1))
+  -- the questions of a line after others
+  abbrev asked : List Line → Line → List (Condition Reading)
+  asked before l = lineConditions text (recordsOf before) (length before + 1) (startAfter before) l
 
-  taken-from : (ls : List Line) (rs : List Record) (n : ℕ) → AllHold (conditionsFrom text rs n ls) → Each Taken ls
-  taken-from [] rs n h = tt
-  taken-from (l ∷ ls) rs n h =
-      let both = hold-append (lineConditions text rs (n + 1) l) (conditionsFrom text (rs ++ recordsOf (l ∷ [])) (n + 1) ls) h in
+  refusing-from : (ls before : List Line) → Refusing (linesConditions text before ls)
+  refusing-from [] before = tt
+  refusing-from (l ∷ ls) before =
+      append-refusing (asked before l) (linesConditions text (before ++ l ∷ []) ls) (line-refusing (recordsOf before) _ _ l) (refusing-from ls (before ++ l ∷ []))
+
+  taken-from : (ls before : List Line) → AllHold (linesConditions text before ls) → Each Taken ls
+  taken-from [] before h = tt
+  taken-from (l ∷ ls) before h =
+      let both = hold-split (asked before l) (linesConditions text (before ++ l ∷ []) ls) h in
       let line = both .0 in (
         record { ended = line .0 .0; section = λ e. line .1 .0 e .0; fielded = λ e. line .1 .1 .0 e },
-        taken-from ls (rs ++ recordsOf (l ∷ [])) (n + 1) (both .1),
+        taken-from ls (before ++ l ∷ []) (both .1),
       )
 
   module _ (answered : textNumber (reading text .answer) ≡ 0) where
     all-held : AllHold (textConditions text)
     all-held =
-        none-refused _ (textConditions text) (reading text) (λ a s e. omega (arith, s .number), refusing-from (linesOf text) [] 0) answered
+        none-refused _ (textConditions text) (reading text)
+        (λ a s e. omega (arith, s .says .number), append-refusing (linesConditions text [] (linesOf text)) (lastConditions text (linesOf text)) (refusing-from (linesOf text) []) (λ a s e. omega (arith, s .says .number), tt)) answered
         (reading-first-failure text)
 
     pub accepted-short : length text ≤ maxText
     accepted-short = all-held .0
 
     accepted-lines : Each Taken (linesOf text)
-    accepted-lines = taken-from (linesOf text) [] 0 (all-held .1)
+    accepted-lines = taken-from (linesOf text) [] (hold-split (linesConditions text [] (linesOf text)) (lastConditions text (linesOf text)) (all-held .1) .0)
 
 -- parts put together are no longer where the first is not and none of the others is
 joined-short : (s : ℕ) (g : List ℕ → List ℕ) (p q : List ℕ) (fs : List (List ℕ)) → length p ≤ length q → Each (λ (f : List ℕ). length (g f) ≤ length f) fs
@@ -211,6 +213,6 @@ module _ (text : List ℕ) (answered : textNumber (reading text .answer) ≡ 0) 
   unfolding spelling
   never-longer =
       let p = reading text .plan in
-      let within = rising-short (planRecords p) (recordsOf (linesOf text)) (records-rise p) (said-has p (recordsOf (linesOf text)) (accepted-says text answered)) in
+      let within = rising-short (planRecords p) (recordsOf (linesOf text)) (records-rise p) (said-has p (recordsOf (linesOf text)) (accepted-sound text answered) (accepted-says text answered)) in
       let lines = lines-short (splitBy lineEnd text) (accepted-lines text answered) in
       omega (arith, within, lines, ap length (split-joined lineEnd text))

@@ -3,8 +3,8 @@
 use Prim.Native.Nat.{ℕ, _≤_}
 use native.Mathlib.Omega.{arith}
 use mathlib.Core.List.{List}
-use mathlib.Core.Logic.{⊎-elim}
-use mathlib.Core.Path.{_≡_, sym, ap}
+use mathlib.Core.Logic.{_↔_, ⊎-elim}
+use mathlib.Core.Path.{_≡_, refl, sym, ap, _∙_}
 use lib.ListN.{length}
 use borrow.Author.Tests.{le-leb, lt-leb, eq-eqb, ne-eqb}
 use Rattle.model.proofs.Decide.{passes, decided, decides-eq, decides-le}
@@ -64,6 +64,20 @@ respelled-fits text =
     )))
     (decided (decides-eq (textNumber (r .answer)) 0))
 
+-- what is printed of an accepted text is its spelling
+printed-accepted : (text : List ℕ) → IsAccepted text → respelledOutput text ≡ respelled text
+unfolding respelledOutput
+printed-accepted text answered = rw (eq-eqb (textNumber (reading text .answer)) 0 answered) refl
+
+printed-alike : (text other : List ℕ) → IsAccepted text → IsAccepted other
+    → (reading text .plan ≡ reading other .plan) ↔ (respelledOutput text ≡ respelledOutput other)
+printed-alike text other answered taken = (
+  λ same. printed-accepted text answered ∙ ap spelling same ∙ sym (printed-accepted other taken),
+  λ alike.
+      same-text-same-plan (reading text .plan) (reading other .plan) (accepted-sound text answered) (accepted-sound other taken)
+      (accepted-sized text answered) (accepted-sized other taken) (sym (printed-accepted text answered) ∙ alike ∙ printed-accepted other taken),
+)
+
 pub spelling-laws : SpellingLaws
 spelling-laws =
     record {
@@ -74,4 +88,5 @@ spelling-laws =
       never-longer = never-longer;
       same-plan = respelled-read;
       settled = λ text answered. ap (λ (a : Reading). spelling (a .plan)) (respelled-read text answered);
+      alike = printed-alike;
     }

@@ -16,17 +16,18 @@ use Rattle.model.specs.declared.Plan.{Plan}
 use Rattle.model.proofs.Decide.{decided, holds, passes, decides-eq}
 use Rattle.model.proofs.Lists.{each-map}
 use Rattle.model.proofs.Sums.{sum-mono}
-use Rattle.plan_text.specs.Records.{sections, layoutOf, Known, knownOf, InRanges, numbersOf, keyOf, Has}
-use Rattle.plan_text.specs.Written.{Draft, emptyDraft, put, draftOf, planOf, written, heldIn}
-use Rattle.plan_text.specs.TextQuestions.{lastSection, Follows, FirstWithKey, WithinTotal}
+use Rattle.plan_text.specs.Records.{sections, layoutOf, Known, knownOf, numbersOf, keyOf, Has}
+use Rattle.plan_text.specs.ReaderParts.{InKnown}
+use Rattle.plan_text.specs.Written.{Draft, emptyDraft, put, draftOf, written, heldIn}
+use Rattle.plan_text.specs.TextQuestions.{lastSection, Follows, InRanges, FirstWithKey, WithinTotal}
 use Rattle.plan_text.specs.Reading.{withinTotal}
 use Rattle.plan_text.specs.Meaning.{line, C, R, T, K}
 use Rattle.plan_text.specs.declared.Record.{Record}
-use Rattle.plan_text.proofs.RecordLists.{some-append, append-left, append-right, has-each, put-same, put-other}
+use Rattle.plan_text.proofs.RecordLists.{some-append, append-left, append-right, has-each, put-same, put-other, sum-put, sum-beyond}
 use Rattle.plan_text.proofs.Sections.{one-of-seven, Blank}
 use Rattle.plan_text.proofs.Kept.{Kept}
 use Rattle.plan_text.proofs.KeptAfter.{kept-after}
-use Rattle.plan_text.proofs.RecordQuestions.{decides-first, decides-total, sum-put, sum-beyond}
+use Rattle.plan_text.proofs.RecordQuestions.{ranges-told, decides-first, decides-total}
 use Rattle.plan_text.proofs.FirstFailure.{draft-more}
 use Rattle.plan_text.proofs.SamePlan.{told}
 use Rattle.plan_spelling.specs.Spelling.{entryRecords, sectionRecords, planRecords}
@@ -44,7 +45,7 @@ pub record Knows (p : Plan) (n : ℕ) (k : Known) : Type 0 where
 
 -- a record in range, with zeros and of few digits
 abbrev Fits : Known → Record → Type 0
-Fits k x = InRanges k x × Blank x × Each (λ (n : ℕ). n < 100000) (take (length (layoutOf (x .section))) (numbersOf x))
+Fits k x = InKnown k x × Blank x × Each (λ (n : ℕ). n < 100000) (take (length (layoutOf (x .section))) (numbersOf x))
 
 -- the section of the last record
 last-within : (P : ℕ → Type 0) → P 0 → (rs : List Record) → Each (λ (q : Record). P (q .section)) rs → P (lastSection rs)
@@ -192,10 +193,10 @@ module _ (p : Plan) (sound : Sound p) where
     known =
         record {
           counts = λ l.
-              let e = kept .one-count _ _ _ (earlier (C (p .resources) (p .types) (p .rows)) (plan-says p sound .counts _ _ _ .0 (refl, refl, refl)) l) in
+              let e = kept .one-count _ _ _ (earlier (C (p .resources) (p .types) (p .rows)) (plan-says p sound .so-far .counts _ _ _ (sound .resources .0) .0 (refl, refl, refl)) l) in
               (sym (e .0), sym (e .1), sym (e .2));
-          capacities = λ l. entry-told 2 _ _ l (kept .capacities) (plan-says p sound .capacities);
-          lengths = λ l. entry-told 3 _ _ l (kept .lengths) (plan-says p sound .lengths);
+          capacities = λ l. entry-told 2 _ _ l (kept .capacities) (plan-says p sound .so-far .capacities);
+          lengths = λ l. entry-told 3 _ _ l (kept .lengths) (plan-says p sound .so-far .lengths);
         }
 
     fits : Fits (knownOf (d .plan)) r
@@ -216,7 +217,7 @@ module _ (p : Plan) (sound : Sound p) where
         (λ none.
         ⊎-elim inr
         (λ (ne : ¬ (r .section ≡ 1)).
-        absurd (none _ (earlier (C (p .resources) (p .types) (p .rows)) (plan-says p sound .counts _ _ _ .0 (refl, refl, refl)) (omega (arith, ne, section)))))
+        absurd (none _ (earlier (C (p .resources) (p .types) (p .rows)) (plan-says p sound .so-far .counts _ _ _ (sound .resources .0) .0 (refl, refl, refl)) (omega (arith, ne, section)))))
         (decided (decides-eq (r .section) 1)))
         (last-or-none rs (each-has _ rs (λ q h. own-section p q (mine q h) .0 .0)))
 
@@ -233,7 +234,7 @@ module _ (p : Plan) (sound : Sound p) where
         (λ (ne : ¬ (at (d .plan .lengths) t ≡ 0)).
         let v = at (d .plan .lengths) t in
         let some : 1 ≤ v = omega (arith, ne) in
-        omega (arith, plan-says p sound .lengths t v some .1 (mine (T t v) (kept .lengths t v .0 (some, refl)))))
+        omega (arith, plan-says p sound .so-far .lengths t v some .1 (mine (T t v) (kept .lengths t v .0 (some, refl)))))
         (decided (decides-eq (at (d .plan .lengths) t) 0))
 
     after-most : (t : ℕ) → InRange t (length (d .plan .lengths)) → (u : ℕ) → at (put (d .plan .lengths) t (lengthOf p t)) u ≤ lengthOf p u
@@ -257,8 +258,8 @@ module _ (p : Plan) (sound : Sound p) where
         let all = sum-beyond (lengthOf p) (p .types) maxTypes (sound .types .1) (sound .no-more-lengths) in
         omega (arith, value, more, most, all, sound .total)
 
-    pub within-total : allStages (written d r .plan) ≤ maxAllStages
-    within-total = holds (decides-total rs d kept r section (fits .0) unheld (⊎-elim (λ l. inl (omega (arith, kept .last, l))) inr past)) met
+    within-total : WithinTotal rs r
+    within-total = holds (decides-total rs d kept r (⊎-elim (λ l. inl (omega (arith, kept .last, l))) inr past)) met
       where
         met : withinTotal (d .plan .lengths) r ≡ true
         met =
@@ -270,7 +271,7 @@ module _ (p : Plan) (sound : Sound p) where
 
     pub record Next : Type 0 where
       pub three : Follows (lastSection rs) (r .section)
-      pub five : InRanges (knownOf (planOf rs)) r
+      pub five : InRanges rs r
       pub six : FirstWithKey rs r
       pub total : WithinTotal rs r
       pub after : Kept (rs ++ r ∷ []) (draftOf (rs ++ r ∷ []))
@@ -280,9 +281,9 @@ module _ (p : Plan) (sound : Sound p) where
     next =
         record {
           three = follows;
-          five = fits .0;
+          five = ranges-told rs d kept r .0 (fits .0);
           six = first;
-          total = subst (λ (c : Draft). allStages (c .plan) ≤ maxAllStages) (sym one-more) within-total;
+          total = within-total;
           after = subst (Kept (rs ++ r ∷ [])) (sym one-more)
               (kept-after rs d kept r
               (record { follows = rw (kept .last) follows; ranges = fits .0; blank = fits .1; first = unheld; total = within-total }));

@@ -1,6 +1,7 @@
--- What the spelling is good for, as worded: of reading and writing alone, with no program in sight.
+-- What the spelling is good for, as worded: of reading, writing and what is printed, with no program in sight.
 use Prim.Native.Nat.{ℕ, _≤_}
 use mathlib.Core.List.{List}
+use mathlib.Core.Logic.{_↔_}
 use mathlib.Core.Path.{_≡_}
 use lib.ListN.{length}
 use Rattle.model.specs.Soundness.{Sound}
@@ -10,6 +11,7 @@ use Rattle.plan_text.specs.Reading.{accepted, reading}
 use Rattle.plan_text.specs.Meaning.{Sized}
 use Rattle.plan_spelling.specs.Spelling.{planRecords, spelling}
 use Rattle.plan_spelling.specs.Order.{Rising}
+use Rattle.plan_spelling.specs.Respelled.{respelledOutput}
 
 -- a plan that a program holds and that is sound
 abbrev pub SoundValue : Plan → Type 0
@@ -35,3 +37,6 @@ pub record SpellingLaws : Type 0 where
   pub never-longer : (text : List ℕ) → IsAccepted text → length (respelled text) ≤ length text
   pub same-plan : (text : List ℕ) → IsAccepted text → reading (respelled text) ≡ accepted (reading text .plan)
   pub settled : (text : List ℕ) → IsAccepted text → respelled (respelled text) ≡ respelled text
+  -- two accepted texts have the same plan exactly when they are printed alike
+  pub alike : (text other : List ℕ) → IsAccepted text → IsAccepted other
+      → (reading text .plan ≡ reading other .plan) ↔ (respelledOutput text ≡ respelledOutput other)

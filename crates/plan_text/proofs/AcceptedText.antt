@@ -27,7 +27,7 @@ use Rattle.plan_text.specs.declared.Reading.{Reading}
 use Rattle.plan_text.proofs.Kept.{Kept}
 use Rattle.plan_text.proofs.KeptAfter.{nothing-kept}
 use Rattle.plan_text.proofs.Completeness.{decides-complete, complete-sound}
-use Rattle.plan_text.proofs.FirstFailure.{isOk, line-answers, goes-on, shown-line, next-lines, records-more}
+use Rattle.plan_text.proofs.FirstFailure.{isOk, line-answers, goes-on, shown-line, next-lines, records-append}
 
 -- the records of a text that is read to its end
 pub record Whole (rs : List Record) (a : Reading) : Type 0 where
@@ -90,13 +90,13 @@ module _ (text : List ℕ) where
       let next = readFrom (n + 1) (from + length (l .bytes) + 1) (written (draftOf rs) (recordIn (l .bytes))) ls in
       let answers = line-answers text rs kept (n + 1) from l shown in
       let hold = decide.all-hold isOk next answers ok in
-      let on = goes-on text rs kept (n + 1) from l shown hold (isSkipped (l .bytes)) refl in
+      let on = goes-on text rs kept (n + 1) from l hold (isSkipped (l .bytes)) refl in
       let same = decide.accepted isOk next answers hold in
       let qs = rs ++ recordsOf (l ∷ []) in
       let at = from + length (l .bytes) + 1 in
       let goes : next ≡ readFrom (n + 1) at (draftOf qs) ls = ap (λ d. readFrom (n + 1) at d ls) (sym (on .1)) in
       let rest = later qs at (on .0) (next-lines text from l ls lines) (rw (same, goes) at ok) in
-      rw (same, goes, records-more l ls, ← append-assoc rs (recordsOf (l ∷ [])) (recordsOf ls)) rest
+      rw (same, goes, records-append (l ∷ []) ls, ← append-assoc rs (recordsOf (l ∷ [])) (recordsOf ls)) rest
 
   whole-from : (ls : List Line) (rs : List Record) (n from : ℕ) → Kept rs (draftOf rs) → linesOf (drop from text) ≡ ls
       → isOk (readFrom n from (draftOf rs) ls) ≡ true → Whole (rs ++ recordsOf ls) (readFrom n from (draftOf rs) ls)

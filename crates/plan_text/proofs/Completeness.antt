@@ -5,49 +5,24 @@ use native.Mathlib.Omega.{arith}
 use mathlib.Core.List.{List}
 use mathlib.Core.Logic.{_⊎_, inl, inr, ⊎-elim, _↔_}
 use mathlib.Core.Path.{_≡_, refl, ap, subst, _∙_}
-use Rattle.model.specs.Limits.{maxBound}
+use Rattle.model.specs.Limits.{maxStages, maxUnits, maxBound}
 use Rattle.model.specs.Numbers.{InRange, entry, at, Each}
 use Rattle.model.specs.Plan.{noStage, emptyPlan, capacityOf, rankOf, boundOf, lengthOf, IsStage, allStages, stageOf, demandOf, weightOf}
 use Rattle.model.specs.Soundness.{EmptyStage, AllRanked, NoneRanked, SoundStage, Sound}
 use Rattle.model.specs.declared.Plan.{Plan}
 use Rattle.model.proofs.Decide.{Decides, decided, holds, decides-iff, decides-eq, decides-le, decides-all, _and_}
 use Rattle.model.proofs.Soundness.{decides-sound, decides-empty-stage}
-use Rattle.plan_text.specs.Records.{Known, knownOf, InRanges, Has}
+use Rattle.plan_text.specs.Records.{Known, knownOf, Has}
+use Rattle.plan_text.specs.ReaderParts.{InKnown}
 use Rattle.plan_text.specs.Written.{Draft, emptyDraft, draftOf}
-use Rattle.plan_text.specs.TextQuestions.{HasSection, HasOne, HasTwo, Complete}
+use Rattle.plan_text.specs.TextQuestions.{IsResource, Complete}
 use Rattle.plan_text.specs.Reading.{isComplete}
-use Rattle.plan_text.specs.Meaning.{line}
+use Rattle.plan_text.specs.Meaning.{line, C, R, T, S, K}
 use Rattle.plan_text.specs.declared.Record.{Record}
-use Rattle.plan_text.proofs.RecordLists.{each-some, some-map, has-each}
-use Rattle.plan_text.proofs.Sections.{of-section, Blank}
+use Rattle.plan_text.proofs.RecordLists.{has-each}
 use Rattle.plan_text.proofs.Kept.{Entry, Place, Half, demandHalf, weightHalf, InPlace, Ranged, Kept}
 use Rattle.plan_text.proofs.KeptAfter.{counts-fit}
-use Rattle.plan_text.proofs.RecordQuestions.{no-more-types}
-
--- records that are there, by what is written of them
-module _ (rs : List Record) (known : Known) (ranged : Each (Ranged known) rs) where
-  abbrev Pair : ℕ → ℕ → Type 0
-  Pair n i = (v : ℕ) × Has rs (line n i v 0 0) × InRanges known (line n i v 0 0)
-
-  pair-found : (n i : ℕ) → ((x y z w : ℕ) → Blank (line n x y z w) → (z ≡ 0) × (w ≡ 0)) → HasOne rs n i → Pair n i
-  pair-found n i blanks h =
-      let found = each-some (λ q. (q .section ≡ n) × (q .first ≡ i)) (Ranged known) rs ranged h in
-      let q = found .0 in
-      let is = of-section n q (found .2 .0) in
-      let z = blanks (q .first) (q .second) (q .third) (q .fourth) (subst Blank is (found .1 .blank)) in
-      let shape : q ≡ line n i (q .second) 0 0 = is ∙ (λ j. line n (found .2 .1 j) (q .second) (z .0 j) (z .1 j)) in
-      (q .second, subst (Has rs) shape (found .3), subst (InRanges known) shape (found .1 .ranges))
-
-  demand-found : (t k : ℕ) → HasTwo rs 4 t k → (r v : ℕ) × Has rs (line 4 t k r v) × InRanges known (line 4 t k r v)
-  demand-found t k h =
-      let found = each-some (λ q. (q .section ≡ 4) × (q .first ≡ t) × (q .second ≡ k)) (Ranged known) rs ranged h in
-      let q = found .0 in
-      let shape : q ≡ line 4 t k (q .third) (q .fourth) =
-      of-section 4 q (found .2 .0) ∙ (λ j. line 4 (found .2 .1 j) (found .2 .2 j) (q .third) (q .fourth)) in
-      (q .third, q .fourth, subst (Has rs) shape (found .3), subst (InRanges known) shape (found .1 .ranges))
-
-  in-range : (q : Record) → Has rs q → InRanges known q
-  in-range q h = has-each (Ranged known) rs q ranged h .ranges
+use Rattle.plan_text.proofs.RecordQuestions.{resource-told, type-told, row-told, stage-told, no-more-types}
 
 -- a value that no record gives is 0
 none-zero : (x : ℕ) → ((v : ℕ) → 1 ≤ v → x ≡ v → ⊥) → x ≡ 0
@@ -61,11 +36,9 @@ module _ (rs : List Record) (d : Draft) (kept : Kept rs d) where
   abbrev p : Plan
   p = d .plan
 
-  abbrev fit : (q : Record) → Has rs q → InRanges (knownOf p) q
-  fit = in-range rs (knownOf p) (kept .ranged)
-
-  abbrev pair : (n i : ℕ) → ((x y z w : ℕ) → Blank (line n x y z w) → (z ≡ 0) × (w ≡ 0)) → HasOne rs n i → Pair rs (knownOf p) (kept .ranged) n i
-  pair = pair-found rs (knownOf p) (kept .ranged)
+  -- a record that is there is in range
+  fit : (q : Record) → Has rs q → InKnown (knownOf p) q
+  fit q h = has-each (Ranged (knownOf p)) rs q (kept .ranged) h .ranges
 
   zero-of : (n : ℕ) (xs : List ℕ) → ((i v : ℕ) → Entry xs i v ↔ Has rs (line n i v 0 0)) → (i : ℕ) → ((v : ℕ) → ¬ Has rs (line n i v 0 0)) → at xs i ≡ 0
   zero-of n xs held i none = none-zero (at xs i) (λ v h e. none v (held i v .0 (h, e)))
@@ -74,61 +47,65 @@ module _ (rs : List Record) (d : Draft) (kept : Kept rs d) where
       → at (h .part (stageOf p t k)) i ≡ 0
   stage-zero h held t k i none = none-zero _ (λ v a e. none v (held (t, k, i) v .0 (a, e)))
 
-  pub counted-section : HasSection rs 1 → 1 ≤ d .section
-  counted-section h = ⊎-elim (λ (e : d .section ≡ 0). absurd (rw (kept .fresh e .0) at h)) (λ ne. omega (arith, ne)) (decided (decides-eq (d .section) 0))
+  pub counted-section : (a b c : ℕ) → Has rs (C a b c) → 1 ≤ d .section
+  counted-section a b c h =
+      ⊎-elim (λ (e : d .section ≡ 0). absurd (rw (kept .fresh e .0) at h)) (λ ne. omega (arith, ne)) (decided (decides-eq (d .section) 0))
 
-  sound-stage : (t k : ℕ) → HasTwo rs 4 t k → SoundStage p t k
+  sound-stage : (t k r v : ℕ) → Has rs (S t k r v) → SoundStage p t k
   unfolding demandOf weightOf
-  sound-stage t k h =
-      let found = demand-found rs (knownOf p) (kept .ranged) t k h in
-      let there = kept .demands (t, k, found .0) (found .1) .1 (found .2) in
+  sound-stage t k r v h =
+      let there = kept .demands (t, k, r) v .1 h in
       record {
-        demands = λ i within. some-within _ _ (λ v a e. fit (line 4 t k i v) (kept .demands (t, k, i) v .0 (a, e)) .1 .1 .1 .0 .1);
-        some = (found .0, found .3 .1 .1 .0, omega (arith, there));
-        weights = λ w within. some-within _ _ (λ v a e. fit (line 6 w t k v) (kept .weights (t, k, w) v .0 (a, e)) .1 .1 .1 .0 .1);
-        no-more-demands = λ i beyond. stage-zero demandHalf (kept .demands) t k i (λ v has. omega (arith, fit (line 4 t k i v) has .1 .1 .0, beyond));
-        no-more-weights = λ w beyond. stage-zero weightHalf (kept .weights) t k w (λ v has. omega (arith, fit (line 6 w t k v) has .0, beyond));
+        demands = λ i within. some-within _ _ (λ u a e. fit (line 4 t k i u) (kept .demands (t, k, i) u .0 (a, e)) .1 .1 .1 .0 .1);
+        some = (r, fit (S t k r v) h .1 .1 .0, omega (arith, there));
+        weights = λ w within. some-within _ _ (λ u a e. fit (line 6 w t k u) (kept .weights (t, k, w) u .0 (a, e)) .1 .1 .1 .0 .1);
+        no-more-demands = λ i beyond. stage-zero demandHalf (kept .demands) t k i (λ u has. omega (arith, fit (line 4 t k i u) has .1 .1 .0, beyond));
+        no-more-weights = λ w beyond. stage-zero weightHalf (kept .weights) t k w (λ u has. omega (arith, fit (line 6 w t k u) has .0, beyond));
       }
 
-  sound-ranks : ((i : ℕ) → InRange i (p .resources) → HasOne rs 7 i) ⊎ ((i : ℕ) → InRange i (p .resources) → ¬ HasOne rs 7 i)
-      → AllRanked p ⊎ NoneRanked p
+  -- ranks for all resources or for none
+  abbrev Ranks : Type 0
+  Ranks = ((i : ℕ) → IsResource rs i → (v : ℕ) × Has rs (K i v)) ⊎ ((i v : ℕ) → ¬ Has rs (K i v))
+
+  -- a value that a record of two numbers says is the entry, in its range
+  pair-within : (n high i v : ℕ) (xs : List ℕ) → ((j u : ℕ) → Entry xs j u ↔ Has rs (line n j u 0 0)) → Has rs (line n i v 0 0) → v ≤ high → InRange (at xs i) high
+  pair-within n high i v xs held has most = let there = held i v .1 has in (omega (arith, there), omega (arith, there, most))
+
+  sound-ranks : Ranks → AllRanked p ⊎ NoneRanked p
   sound-ranks (inl all) =
       inl (λ i within.
-      let found = pair 7 i (λ x y z w h. (h .0, h .1 .0)) (all i within) in
-      let there = kept .ranks i (found .0) .1 (found .1) in
-      (omega (arith, there), omega (arith, there, found .2 .1)))
-  sound-ranks (inr none) =
-      inr (λ i within.
-      zero-of 7 (p .rank) (kept .ranks) i
-      (λ v has. none i within (some-map (λ q. q ≡ line 7 i v 0 0) (λ q. (q .section ≡ 7) × (q .first ≡ i)) (λ q e. (rw e refl, rw e refl)) rs has)))
+      let found = all i (resource-told rs d kept i .0 within) in
+      pair-within 7 maxUnits i (found .0) (p .rank) (kept .ranks) (found .1) (fit (K i (found .0)) (found .1) .1 .0 .1))
+  sound-ranks (inr none) = inr (λ i within. zero-of 7 (p .rank) (kept .ranks) i (none i))
+
+  -- a row with a bound above 0 has its record
+  pub bound-there : (w v : ℕ) → 1 ≤ v → boundOf p w ≡ v → Has rs (line 5 w v 0 0)
+  bound-there w v a e =
+      kept .bounds w v .0 (⊎-elim (λ (m : at (d .bounded) w ≡ 1). m) (λ m. absurd (omega (arith, m .1, a, e))) (kept .flags w), e)
 
   beyond-empty : (i : ℕ) → allStages p < i → EmptyStage (entry (p .stages) i noStage)
   beyond-empty zero h = absurd (omega arith)
   beyond-empty (suc i) h = rw (kept .beyond i (omega arith)) (holds (decides-empty-stage noStage) refl)
 
   -- the records are complete, and the plan is sound
-  module _ (counts : HasSection rs 1) (capacities : (i : ℕ) → InRange i (p .resources) → HasOne rs 2 i)
-      (lengths : (t : ℕ) → InRange t (p .types) → HasOne rs 3 t) (demands : (t k : ℕ) → IsStage p t k → HasTwo rs 4 t k)
-      (ranks : ((i : ℕ) → InRange i (p .resources) → HasOne rs 7 i) ⊎ ((i : ℕ) → InRange i (p .resources) → ¬ HasOne rs 7 i)) where
+  module _ (c : Complete rs) where
     sound-plan : Sound p
     sound-plan =
-        let few = counts-fit rs d kept (counted-section counts) in
+        let few = counts-fit rs d kept (counted-section _ _ _ (c .counts .3)) in
         record {
           resources = few .0;
           types = few .1;
           rows = few .2;
           capacities = λ i within.
-              let found = pair 2 i (λ x y z w h. (h .0, h .1 .0)) (capacities i within) in
-              let there = kept .capacities i (found .0) .1 (found .1) in
-              (omega (arith, there), omega (arith, there, found .2 .1));
-          ranks = sound-ranks ranks;
+              let found = c .capacities i (resource-told rs d kept i .0 within) in
+              pair-within 2 maxUnits i (found .0) (p .capacity) (kept .capacities) (found .1) (fit (R i (found .0)) (found .1) .1 .0 .1);
+          ranks = sound-ranks (c .ranks);
           bounds = λ w within. some-within _ _ (λ v a e. bound-within w v a e);
           lengths = λ t within.
-              let found = pair 3 t (λ x y z w h. (h .0, h .1 .0)) (lengths t within) in
-              let there = kept .lengths t (found .0) .1 (found .1) in
-              (omega (arith, there), omega (arith, there, found .2 .1));
+              let found = c .lengths t (type-told rs d kept t .0 within) in
+              pair-within 3 maxStages t (found .0) (p .lengths) (kept .lengths) (found .1) (fit (T t (found .0)) (found .1) .1 .0 .1);
           total = kept .total;
-          stages = λ t k is. sound-stage t k (demands t k is);
+          stages = λ t k is. let found = c .demands t k (stage-told rs d kept t k .0 (is .1)) in sound-stage t k (found .0) (found .1) (found .2);
           no-more-capacities = λ i beyond. zero-of 2 (p .capacity) (kept .capacities) i (λ v has. omega (arith, fit (line 2 i v 0 0) has .0, beyond));
           no-more-ranks = λ i beyond. zero-of 7 (p .rank) (kept .ranks) i (λ v has. omega (arith, fit (line 7 i v 0 0) has .0, beyond));
           no-more-bounds = λ w beyond. none-zero (boundOf p w) (λ v a e. bound-beyond w v beyond a e);
@@ -136,11 +113,6 @@ module _ (rs : List Record) (d : Draft) (kept : Kept rs d) where
           no-more-stages = beyond-empty;
         }
       where
-        -- a row with a bound has its record
-        bound-there : (w v : ℕ) → 1 ≤ v → boundOf p w ≡ v → Has rs (line 5 w v 0 0)
-        bound-there w v a e =
-            kept .bounds w v .0 (⊎-elim (λ (m : at (d .bounded) w ≡ 1). m) (λ m. absurd (omega (arith, m .1, a, e))) (kept .flags w), e)
-
         bound-within : (w v : ℕ) → 1 ≤ v → boundOf p w ≡ v → v ≤ maxBound
         bound-within w v a e = fit (line 5 w v 0 0) (bound-there w v a e) .1 .0 .1
 
@@ -157,50 +129,47 @@ module _ (rs : List Record) (kept : Kept rs (draftOf rs)) where
   abbrev Bounds : Type 0
   Bounds = (w : ℕ) → InRange w (plan .rows) → 1 ≤ at (draft .bounded) w
 
-  one-of : (n i v : ℕ) → Has rs (line n i v 0 0) → HasOne rs n i
-  one-of n i v h = some-map (λ q. q ≡ line n i v 0 0) (λ q. (q .section ≡ n) × (q .first ≡ i)) (λ q e. (rw e refl, rw e refl)) rs h
-
   pub complete-sound : Complete rs → Sound plan
-  complete-sound c = sound-plan rs draft kept (c .counts) (c .capacities) (c .lengths) (c .demands) (c .ranks)
+  complete-sound = sound-plan rs draft kept
 
   pub complete-bounds : Complete rs → Bounds
   complete-bounds c w within =
-      let found = pair rs draft kept 5 w (λ x y z w h. (h .0, h .1 .0)) (c .bounds w within) in
+      let found = c .bounds w (row-told rs draft kept w .0 within) in
       omega (arith, kept .bounds w (found .0) .1 (found .1) .0)
 
   no-counts : draft .section ≡ 0 → plan .resources ≡ 0
   unfolding emptyDraft emptyPlan
   no-counts e = ap (λ (d : Draft). d .plan .resources) (kept .fresh e .1)
 
-  some-stage : (t k : ℕ) → SoundStage plan t k → HasTwo rs 4 t k
-  unfolding demandOf
-  some-stage t k s =
-      let r = s .some .0 in
-      let v = demandOf plan r t k in
-      some-map (λ q. q ≡ line 4 t k r v) (λ q. (q .section ≡ 4) × (q .first ≡ t) × (q .second ≡ k)) (λ q e. (rw e refl, rw e refl, rw e refl)) rs
-      (kept .demands (t, k, r) v .0 (s .some .2, refl))
-
-  ranks-told : AllRanked plan ⊎ NoneRanked plan
-      → ((i : ℕ) → InRange i (plan .resources) → HasOne rs 7 i) ⊎ ((i : ℕ) → InRange i (plan .resources) → ¬ HasOne rs 7 i)
-  ranks-told (inl all) = inl (λ i within. one-of 7 i (rankOf plan i) (kept .ranks i (rankOf plan i) .0 (all i within .0, refl)))
+  ranks-told : AllRanked plan ⊎ NoneRanked plan → Ranks rs draft kept
+  ranks-told (inl all) =
+      inl (λ i is. (rankOf plan i, kept .ranks i (rankOf plan i) .0 (all i (resource-told rs draft kept i .1 is) .0, refl)))
   ranks-told (inr none) =
-      inr (λ i within h.
-      let found = pair rs draft kept 7 i (λ x y z w h. (h .0, h .1 .0)) h in
-      omega (arith, kept .ranks i (found .0) .1 (found .1), none i within))
+      inr (λ i v h. omega (arith, kept .ranks i v .1 h, none i (fit rs draft kept (K i v) h .0)))
 
   sound-complete : Sound plan → Bounds → Complete rs
+  unfolding demandOf
   sound-complete s bounds =
       record {
-        counts = some-map _ (λ q. q .section ≡ 1) (λ q e. rw e refl) rs
-            (kept .counted (⊎-elim (λ (e : draft .section ≡ 0). absurd (omega (arith, no-counts e, s .resources))) (λ ne. omega (arith, ne))
-            (decided (decides-eq (draft .section) 0))));
-        capacities = λ i within. one-of 2 i (capacityOf plan i) (kept .capacities i (capacityOf plan i) .0 (s .capacities i within .0, refl));
-        lengths = λ t within. one-of 3 t (lengthOf plan t) (kept .lengths t (lengthOf plan t) .0 (s .lengths t within .0, refl));
-        demands = λ t k is. some-stage t k (s .stages t k is);
-        bounds = λ w within.
-            one-of 5 w (boundOf plan w)
-            (kept .bounds w (boundOf plan w) .0
-            (⊎-elim (λ (m : at (draft .bounded) w ≡ 1). m) (λ m. absurd (omega (arith, m .0, bounds w within))) (kept .flags w), refl));
+        counts = (
+          _,
+          _,
+          _,
+          kept .counted (⊎-elim (λ (e : draft .section ≡ 0). absurd (omega (arith, no-counts e, s .resources))) (λ ne. omega (arith, ne))
+              (decided (decides-eq (draft .section) 0))),
+        );
+        capacities = λ i is. (capacityOf plan i, kept .capacities i (capacityOf plan i) .0 (s .capacities i (resource-told rs draft kept i .1 is) .0, refl));
+        lengths = λ t is. (lengthOf plan t, kept .lengths t (lengthOf plan t) .0 (s .lengths t (type-told rs draft kept t .1 is) .0, refl));
+        demands = λ t k is.
+            let some = s .stages t k (fit rs draft kept (T t (is .0)) (is .1) .0, stage-told rs draft kept t k .1 is) .some in
+            let v = demandOf plan (some .0) t k in
+            (some .0, v, kept .demands (t, k, some .0) v .0 (some .2, refl));
+        bounds = λ w is.
+            let within = row-told rs draft kept w .1 is in (
+              boundOf plan w,
+              kept .bounds w (boundOf plan w) .0
+                  (⊎-elim (λ (m : at (draft .bounded) w ≡ 1). m) (λ m. absurd (omega (arith, m .0, bounds w within))) (kept .flags w), refl),
+            );
         ranks = ranks-told (s .ranks);
       }
 

@@ -7,20 +7,20 @@ use mathlib.Core.List.{List, [], _∷_, _++_, append-assoc, append-nil}
 use mathlib.Core.Logic.{⊎-elim}
 use mathlib.Core.Path.{_≡_, refl, sym, ap, subst, _∙_}
 use lib.Dec.{eqb, ltb}
-use lib.ListN.{length, take, drop}
+use lib.ListN.{length, take, drop, length-append}
 use lib.Seq.{set-getD}
 use borrow.Author.Tests.{eqb-true}
 use Rattle.bytes.specs.Bytes.{slice, indexOf}
-use Rattle.model.specs.Questions.{FirstFailure}
-use Rattle.model.specs.Limits.{maxAllStages}
-use Rattle.model.specs.Plan.{noStage, allStages}
+use Rattle.model.specs.Questions.{Condition, AllHold, FirstFailure}
+use Rattle.model.specs.Plan.{noStage}
 use Rattle.model.proofs.Decide.{Decides, holding, decided, passes, decides-iff, decides-le, decides-lt}
-use Rattle.model.proofs.Decide.{Answers, done, asked, AllHold, choose, failure-append, first-failure-then}
+use Rattle.model.proofs.Decide.{Answers, done, asked, choose, failure-append, hold-split, first-failure-then}
 use Rattle.plan_text.specs.Lines.{Line, lineEnd, linesOf, isSkipped, parts, letterIn, fieldsIn}
-use Rattle.plan_text.specs.Records.{knownOf, recordIn, noRecord, InRanges, inRanges, sectionOf, fieldsRead, layoutOf}
+use Rattle.plan_text.specs.Records.{knownOf, recordIn, noRecord, inRanges, sectionOf, fieldsRead, layoutOf}
 use Rattle.plan_text.specs.Written.{Draft, emptyDraft, indexIn, written, writtenAll, draftOf, planOf, heldIn}
-use Rattle.plan_text.specs.TextQuestions.{textNumber, Refuses, IsRecord, recordsOf, Follows, WellFielded, FirstWithKey, WithinTotal, lastSection}
-use Rattle.plan_text.specs.TextQuestions.{maxText, lineConditions, conditionsFrom, textConditions, Accepts}
+use Rattle.plan_text.specs.Meaning.{SaysSoFar}
+use Rattle.plan_text.specs.TextQuestions.{textNumber, Refuses, IsRecord, recordsOf, startAfter, Follows, WellFielded, InRanges, FirstWithKey, WithinTotal, lastSection}
+use Rattle.plan_text.specs.TextQuestions.{maxText, lineConditions, linesConditions, LinesTaken, lastConditions, textConditions, Accepts}
 use Rattle.plan_text.specs.Reading.{refused, accepted, follows, withinTotal, lineQuestions, readFrom, reading}
 use Rattle.plan_text.specs.declared.Record.{Record}
 use Rattle.plan_text.specs.declared.TextAnswer.{TextAnswer}
@@ -30,8 +30,9 @@ use Rattle.plan_text.proofs.LineByLine.{end-within, line-length, line-h
 use Rattle.plan_text.proofs.LineForm.{decides-record, decides-well-formed, decides-follows, decides-fielded, fielded-blank, record-in, skipped-in}
 use Rattle.plan_text.proofs.Kept.{Kept, Taken}
 use Rattle.plan_text.proofs.KeptAfter.{kept-after, nothing-kept}
-use Rattle.plan_text.proofs.RecordQuestions.{decides-ranges, decides-first, decides-total}
-use Rattle.plan_text.proofs.Completeness.{decides-complete}
+use Rattle.plan_text.proofs.RecordQuestions.{ranges-told, decides-in-ranges, decides-first, decides-total}
+use Rattle.plan_text.proofs.Completeness.{decides-complete, complete-sound}
+use Rattle.plan_text.proofs.RecordsSay.{says-so-far, records-say, records-sized}
 
 -- the draft after one record more
 pub draft-more : (d : Draft) (rs qs : List Record) → writtenAll d (rs ++ qs) ≡ writtenAll (writtenAll d rs) qs
@@ -67,8 +68,7 @@ abbrev pub isOk : Reading → Bool
 isOk a = eqb (textNumber (a .answer)) 0
 
 -- one line after the records rs
-module _ (text : List ℕ) (rs : List Record) (kept : Kept rs (draftOf rs)) (n from : ℕ) (l : Line)
-    (shown : take (from + length (l .bytes) - from) (drop from text) ≡ l .bytes) where
+module _ (text : List ℕ) (rs : List Record) (kept : Kept rs (draftOf rs)) (n from : ℕ) (l : Line) where
   abbrev d : Draft
   d = draftOf rs
 
@@ -77,9 +77,6 @@ module _ (text : List ℕ) (rs : List Record) (kept : Kept rs (draftOf rs)) (n f
 
   one-more : draftOf (rs ++ r ∷ []) ≡ written d r
   one-more = draft-more emptyDraft rs (r ∷ [])
-
-  refusal : (number : ℕ) (a : TextAnswer) → textNumber a ≡ number → Refuses text number n (l .bytes) (refused a n from (from + length (l .bytes)))
-  refusal number a e = record { number = e; line = refl; shown = shown; plan = refl }
 
   section-of : IsRecord l → r .section ≡ sectionOf (letterIn (parts (l .bytes)))
   section-of e = ap (λ (q : Record). q .section) (record-in (l .bytes) e)
@@ -96,11 +93,11 @@ module _ (text : List ℕ) (rs : List Record) (kept : Kept rs (draftOf rs)) (n f
       decides-record (isSkipped (l .bytes))
       (λ e. rw (section-of e) (decides-fielded (fieldsIn (parts (l .bytes))) (sectionOf (letterIn (parts (l .bytes))))))
 
-  met-five : Decides (IsRecord l → InRanges (knownOf (d .plan)) r) (inRanges (knownOf (d .plan)) r)
+  met-five : Decides (IsRecord l → InRanges rs r) (inRanges (knownOf (d .plan)) r)
   unfolding inRanges
-  met-five = decides-unless (isSkipped (l .bytes)) (λ e. rw (skipped-in (l .bytes) e) refl) (λ e. decides-ranges (knownOf (d .plan)) r)
+  met-five = decides-unless (isSkipped (l .bytes)) (λ e. rw (skipped-in (l .bytes) e) refl) (λ e. decides-in-ranges rs d kept r)
 
-  module _ (three : IsRecord l → Follows (lastSection rs) (sectionOf (letterIn (parts (l .bytes))))) (five : IsRecord l → InRanges (knownOf (d .plan)) r) where
+  module _ (three : IsRecord l → Follows (lastSection rs) (sectionOf (letterIn (parts (l .bytes))))) (five : IsRecord l → InRanges rs r) where
     follows-last : IsRecord l → Follows (d .section) (r .section)
     follows-last e = rw (section-of e, kept .last) (three e)
 
@@ -108,42 +105,44 @@ module _ (text : List ℕ) (rs : List Record) (kept : Kept rs (draftOf rs)) (n f
     unfolding heldIn
     met-six =
         decides-unless (isSkipped (l .bytes)) (λ e. rw (skipped-in (l .bytes) e) refl)
-        (λ e. decides-first rs d kept r (follows-last e .0) (five e))
+        (λ e. decides-first rs d kept r (follows-last e .0) (ranges-told rs d kept r .1 (five e)))
 
     nothing-held : (e : IsRecord l) → FirstWithKey rs r → heldIn d r ≡ 0
-    nothing-held e first = eqb-true (heldIn d r) 0 (passes (decides-first rs d kept r (follows-last e .0) (five e)) first)
+    nothing-held e first = eqb-true (heldIn d r) 0 (passes (decides-first rs d kept r (follows-last e .0) (ranges-told rs d kept r .1 (five e))) first)
 
-    met-total : (IsRecord l → FirstWithKey rs r) → Decides (IsRecord l → WithinTotal rs r) (withinTotal (d .plan .lengths) r)
-    met-total six =
-        decides-unless (isSkipped (l .bytes)) (λ e. rw (skipped-in (l .bytes) e) refl)
-        (λ e.
-        subst (λ (c : Draft). Decides (allStages (c .plan) ≤ maxAllStages) (withinTotal (d .plan .lengths) r)) (sym one-more)
-        (decides-total rs d kept r (follows-last e .0) (five e) (nothing-held e (six e)) (follows-last e .2)))
+    met-total : Decides (IsRecord l → WithinTotal rs r) (withinTotal (d .plan .lengths) r)
+    met-total =
+        decides-unless (isSkipped (l .bytes)) (λ e. rw (skipped-in (l .bytes) e) refl) (λ e. decides-total rs d kept r (follows-last e .2))
 
-  pub line-answers : Answers isOk (lineQuestions n from d l) (lineConditions text rs n l)
-  line-answers =
-      asked (decides-well-formed l) (λ h. refusal 2 BadLine refl) refl
-      (λ two.
-      asked met-three (λ h. refusal 3 BadLetter refl) refl
-      (λ three.
-      asked met-four (λ h. refusal 4 BadFields refl) refl
-      (λ four.
-      asked met-five (λ h. refusal 5 OutOfRange refl) refl
-      (λ five.
-      asked (met-six three five) (λ h. refusal 6 Repeated refl) refl
-      (λ six. asked (met-total three five six) (λ h. refusal 5 OutOfRange refl) refl (λ total. done))))))
+  -- the line stands in the text
+  module _ (shown : take (from + length (l .bytes) - from) (drop from text) ≡ l .bytes) where
+    refusal : (number : ℕ) (a : TextAnswer) → textNumber a ≡ number → Refuses text number n from (l .bytes) (refused a n from (from + length (l .bytes)))
+    refusal number a e = record { says = record { number = e; line = refl; from = refl; to = refl; shown = shown }; plan = refl }
+
+    pub line-answers : Answers isOk (lineQuestions n from d l) (lineConditions text rs n from l)
+    line-answers =
+        asked (decides-well-formed l) (λ h. refusal 2 BadLine refl) refl
+        (λ two.
+        asked met-three (λ h. refusal 3 BadLetter refl) refl
+        (λ three.
+        asked met-four (λ h. refusal 4 BadFields refl) refl
+        (λ four.
+        asked met-five (λ h. refusal 5 OutOfRange refl) refl
+        (λ five.
+        asked (met-six three five) (λ h. refusal 6 Repeated refl) refl
+        (λ six. asked (met-total three five) (λ h. refusal 5 OutOfRange refl) refl (λ total. done))))))
 
   -- the draft and the records go on together
-  module _ (all : AllHold (lineConditions text rs n l)) where
-    taken : IsRecord l → Taken d r
+  module _ (all : AllHold (lineConditions text rs n from l)) where
+    taken : IsRecord l → Taken rs d r
     taken e =
         let three = follows-last (all .1 .0) (all .1 .1 .1 .0) in
         record {
           follows = three e;
-          ranges = all .1 .1 .1 .0 e;
+          ranges = ranges-told rs d kept r .1 (all .1 .1 .1 .0 e);
           blank = rw (record-in (l .bytes) e) (fielded-blank (fieldsIn (parts (l .bytes))) (sectionOf (letterIn (parts (l .bytes)))) (all .1 .1 .0 e));
           first = nothing-held (all .1 .0) (all .1 .1 .1 .0) e (all .1 .1 .1 .1 .0 e);
-          total = subst (λ (c : Draft). allStages (c .plan) ≤ maxAllStages) one-more (all .1 .1 .1 .1 .1 .0 e);
+          total = all .1 .1 .1 .1 .1 .0 e;
         }
 
     pub goes-on : (b : Bool) → isSkipped (l .bytes) ≡ b
@@ -151,12 +150,18 @@ module _ (text : List ℕ) (rs : List Record) (kept : Kept rs (draftOf rs)) (n f
     goes-on true e = rw (e, append-nil rs, skipped-in (l .bytes) e) (kept, sym (nothing-written d))
     goes-on false e = rw e (subst (Kept (rs ++ r ∷ [])) (sym one-more) (kept-after rs d kept r (taken e)), one-more)
 
-pub records-more : (l : Line) (ls : List Line) → recordsOf (l ∷ ls) ≡ recordsOf (l ∷ []) ++ recordsOf ls
-records-more l ls = go (isSkipped (l .bytes))
+pub records-append : (ls ms : List Line) → recordsOf (ls ++ ms) ≡ recordsOf ls ++ recordsOf ms
+records-append [] ms = refl
+records-append (l ∷ ls) ms = go (isSkipped (l .bytes)) (records-append ls ms)
   where
-    go : (b : Bool) → cond b (recordsOf ls) (recordIn (l .bytes) ∷ recordsOf ls) ≡ cond b [] (recordIn (l .bytes) ∷ []) ++ recordsOf ls
-    go true = refl
-    go false = refl
+    go : (b : Bool) → recordsOf (ls ++ ms) ≡ recordsOf ls ++ recordsOf ms
+        → cond b (recordsOf (ls ++ ms)) (recordIn (l .bytes) ∷ recordsOf (ls ++ ms)) ≡ cond b (recordsOf ls) (recordIn (l .bytes) ∷ recordsOf ls) ++ recordsOf ms
+    go true e = e
+    go false e = ap (λ rs. recordIn (l .bytes) ∷ rs) e
+
+start-append : (before : List Line) (l : Line) → startAfter (before ++ l ∷ []) ≡ startAfter before + length (l .bytes) + 1
+start-append [] l = omega arith
+start-append (b ∷ before) l = omega (arith, start-append before l)
 
 -- from a line of the text on
 module _ (text : List ℕ) (from : ℕ) (l : Line) (ls : List Line) (lines : linesOf (drop from text) ≡ l ∷ ls) where
@@ -184,40 +189,83 @@ module _ (text : List ℕ) (from : ℕ) (l : Line) (ls : List Line) (lines : lin
   next-lines = rw line-size (cc (line-here text from end refl from-within))
 
 module _ (text : List ℕ) where
-  abbrev Right : List Record → ℕ → ℕ → List Line → Type 0
-  Right rs n from ls = FirstFailure (Accepts text) (conditionsFrom text rs n ls) (readFrom n from (draftOf rs) ls)
+  abbrev KeptLines : List Line → Type 0
+  KeptLines before = Kept (recordsOf before) (draftOf (recordsOf before))
 
-  abbrev All : List Record → List Line → Type 0
-  All rs ls = rs ++ recordsOf ls ≡ recordsOf (linesOf text)
+  -- one line more that is taken
+  module _ (before : List Line) (l : Line) (kept : KeptLines before)
+      (hold : AllHold (lineConditions text (recordsOf before) (length before + 1) (startAfter before) l)) where
+    abbrev on : Kept (recordsOf before ++ recordsOf (l ∷ [])) (draftOf (recordsOf before ++ recordsOf (l ∷ [])))
+        × (draftOf (recordsOf before ++ recordsOf (l ∷ [])) ≡ written (draftOf (recordsOf before)) (recordIn (l .bytes)))
+    on = goes-on text (recordsOf before) kept (length before + 1) (startAfter before) l hold (isSkipped (l .bytes)) refl
 
-  right-end : (rs : List Record) (n from : ℕ) → Kept rs (draftOf rs) → All rs [] → Right rs n from []
-  right-end rs n from kept all =
-      choose (Accepts text) (Refuses text 7 (n + 1) []) (accepted (draftOf rs .plan)) (refused Incomplete (n + 1) 0 0)
-      (decides-complete rs kept) (λ h. record { number = refl; line = refl; shown = refl; plan = refl })
-      (λ h. record { number = refl; line = refl; shown = refl; plan = ap planOf (sym (append-nil rs) ∙ all) })
+    kept-more : KeptLines (before ++ l ∷ [])
+    kept-more = subst (λ rs. Kept rs (draftOf rs)) (sym (records-append before (l ∷ []))) (on .0)
 
-  right-line : (l : Line) (ls : List Line) (rs : List Record) (n from : ℕ) → Kept rs (draftOf rs) → linesOf (drop from text) ≡ l ∷ ls → All rs (l ∷ ls)
-      → ((qs : List Record) (at : ℕ) → Kept qs (draftOf qs) → linesOf (drop at text) ≡ ls → All qs ls → Right qs (n + 1) at ls) → Right rs n from (l ∷ ls)
-  right-line l ls rs n from kept lines all later =
-      let answers = line-answers text rs kept (n + 1) from l (shown-line text from l ls lines) in
-      failure-append (Accepts text) (lineConditions text rs (n + 1) l) (conditionsFrom text (rs ++ recordsOf (l ∷ [])) (n + 1) ls) _
-      (first-failure-then isOk _ (FirstFailure (Accepts text) (conditionsFrom text (rs ++ recordsOf (l ∷ [])) (n + 1) ls)) answers
+    draft-after : draftOf (recordsOf (before ++ l ∷ [])) ≡ written (draftOf (recordsOf before)) (recordIn (l .bytes))
+    draft-after = ap draftOf (records-append before (l ∷ [])) ∙ on .1
+
+  kept-lines : (ls before : List Line) → KeptLines before → AllHold (linesConditions text before ls) → KeptLines (before ++ ls)
+  kept-lines [] before kept hold = rw append-nil kept
+  kept-lines (l ∷ ls) before kept hold =
+      let both = hold-split (lineConditions text (recordsOf before) (length before + 1) (startAfter before) l) (linesConditions text (before ++ l ∷ []) ls) hold in
+      subst KeptLines (append-assoc before (l ∷ []) ls) (kept-lines ls (before ++ l ∷ []) (kept-more before l kept (both .0)) (both .1))
+
+  -- what the records of lines that are taken say of the plan so far, which questions 5 and 7 are asked of when they are computed
+  pub so-far-said : (ls : List Line) → LinesTaken text ls → SaysSoFar (recordsOf ls) (planOf (recordsOf ls))
+  so-far-said ls taken = says-so-far (recordsOf ls) (kept-lines ls [] nothing-kept taken)
+
+  abbrev lines : List Line
+  lines = linesOf text
+
+  abbrev seven : List (Condition Reading)
+  seven = lastConditions text lines
+
+  -- the lines ls read after those before them
+  abbrev readAfter : List Line → List Line → Reading
+  readAfter before ls = readFrom (length before) (startAfter before) (draftOf (recordsOf before)) ls
+
+  abbrev Right : List Line → List Line → Type 0
+  Right before ls = FirstFailure (FirstFailure (Accepts text) seven) (linesConditions text before ls) (readAfter before ls)
+
+  right-end : KeptLines lines → Right lines []
+  right-end kept =
+      choose (Accepts text) (Refuses text 7 (length lines + 1) 0 []) (accepted (planOf (recordsOf lines))) (refused Incomplete (length lines + 1) 0 0)
+      (decides-complete (recordsOf lines) kept)
+      (λ h. record { says = record { number = refl; line = refl; from = refl; to = refl; shown = refl }; plan = refl })
+      (λ c. record {
+        says = record { number = refl; line = refl; from = refl; to = refl; shown = refl };
+        plan = records-say (recordsOf lines) kept c;
+        sound = complete-sound (recordsOf lines) kept c;
+        sized = records-sized (recordsOf lines) kept;
+      })
+
+  right-line : (l : Line) (ls before : List Line) → KeptLines before → linesOf (drop (startAfter before) text) ≡ l ∷ ls
+      → (KeptLines (before ++ l ∷ []) → linesOf (drop (startAfter (before ++ l ∷ [])) text) ≡ ls → Right (before ++ l ∷ []) ls) → Right before (l ∷ ls)
+  right-line l ls before kept here later =
+      let shown = shown-line text (startAfter before) l ls here in
+      let asked-here = lineConditions text (recordsOf before) (length before + 1) (startAfter before) l in
+      let rest = linesConditions text (before ++ l ∷ []) ls in
+      let answers = line-answers text (recordsOf before) kept (length before + 1) (startAfter before) l shown in
+      failure-append (FirstFailure (Accepts text) seven) asked-here rest _
+      (first-failure-then isOk _ (FirstFailure (FirstFailure (Accepts text) seven) rest) answers
       (λ hold.
-      let on = goes-on text rs kept (n + 1) from l (shown-line text from l ls lines) hold (isSkipped (l .bytes)) refl in
-      rw (← (on .1))
-      (later (rs ++ recordsOf (l ∷ [])) (from + length (l .bytes) + 1) (on .0) (next-lines text from l ls lines)
-      (append-assoc rs (recordsOf (l ∷ [])) (recordsOf ls) ∙ ap (λ qs. rs ++ qs) (sym (records-more l ls)) ∙ all))))
+      let place = start-append before l in
+      let goes = later (kept-more before l kept hold) (rw place (next-lines text (startAfter before) l ls here)) in
+      rw (length-append, place, draft-after before l kept hold) at goes))
 
-  right-from : (ls : List Line) (rs : List Record) (n from : ℕ) → Kept rs (draftOf rs) → linesOf (drop from text) ≡ ls → All rs ls → Right rs n from ls
-  right-from [] rs n from kept lines all = right-end rs n from kept all
-  right-from (l ∷ ls) rs n from kept lines all =
-      right-line l ls rs n from kept lines all (λ qs at keeps rest others. right-from ls qs (n + 1) at keeps rest others)
+  right-from : (ls before : List Line) → KeptLines before → linesOf (drop (startAfter before) text) ≡ ls → before ++ ls ≡ lines → Right before ls
+  right-from [] before kept here all =
+      let same : lines ≡ before = sym all ∙ append-nil before in
+      subst (λ b. Right b []) same (right-end (subst KeptLines (sym same) kept))
+  right-from (l ∷ ls) before kept here all =
+      right-line l ls before kept here (λ keeps rest. right-from ls (before ++ l ∷ []) keeps rest (append-assoc before (l ∷ []) ls ∙ all))
 
   -- the answer is that of the first question that fails, in the first line that has one
   pub reading-first-failure : FirstFailure (Accepts text) (textConditions text) (reading text)
   unfolding reading
   reading-first-failure =
-      choose (FirstFailure (Accepts text) (conditionsFrom text [] 0 (linesOf text))) (Refuses text 1 0 [])
-      (readFrom 0 0 emptyDraft (linesOf text)) (refused TooLong 0 0 0) (decides-le (length text) maxText)
-      (λ h. record { number = refl; line = refl; shown = refl; plan = refl })
-      (λ h. right-from (linesOf text) [] 0 0 nothing-kept refl refl)
+      choose (FirstFailure (Accepts text) (linesConditions text [] lines ++ seven)) (Refuses text 1 0 0 [])
+      (readFrom 0 0 emptyDraft lines) (refused TooLong 0 0 0) (decides-le (length text) maxText)
+      (λ h. record { says = record { number = refl; line = refl; from = refl; to = refl; shown = refl }; plan = refl })
+      (λ h. failure-append (Accepts text) (linesConditions text [] lines) seven _ (right-from lines [] nothing-kept refl refl))

@@ -19,11 +19,12 @@ use Rattle.model.proofs.Decide.{decided, decides-eq, decides-le}
 use Rattle.model.proofs.Flat.{index-of-stage}
 use Rattle.model.proofs.Lists.{replicated}
 use Rattle.plan_text.specs.Records.{sections, number, Known, knownOf}
-use Rattle.plan_text.specs.Records.{InRanges, Has}
+use Rattle.plan_text.specs.Records.{Has}
+use Rattle.plan_text.specs.ReaderParts.{InKnown}
 use Rattle.plan_text.specs.Written.{Draft, emptyDraft, put, withDemand, withWeight, typeIn, stageIn, indexIn}
 use Rattle.plan_text.specs.Written.{entriesAfter, boundedAfter, stageAfter, stageHere}
 use Rattle.plan_text.specs.Written.{written, heldIn}
-use Rattle.plan_text.specs.TextQuestions.{Follows, lastSection}
+use Rattle.plan_text.specs.TextQuestions.{Follows, lastSection, stagesIn, WithinTotal}
 use Rattle.plan_text.specs.Meaning.{line}
 use Rattle.plan_text.specs.declared.Record.{Record}
 use Rattle.plan_text.proofs.RecordLists.{held-still, held-more, put-same, put-other, put-length, entries-length}
@@ -86,7 +87,7 @@ InPlace h p k v = Entry (h .part (stageOf p (k .0) (k .1))) (k .2) v
 -- a record of the text, in range
 pub record Ranged (k : Known) (q : Record) : Type 0 where
   pub section : InRange (q .section) sections
-  pub ranges : InRanges k q
+  pub ranges : InKnown k q
   pub blank : Blank q
 
 pub record Kept (rs : List Record) (d : Draft) : Type 0 where
@@ -98,6 +99,7 @@ pub record Kept (rs : List Record) (d : Draft) : Type 0 where
   pub unwritten : d .section ≤ 3 → d .plan .stages ≡ replicate maxAllStages noStage
   pub ranged : Each (Ranged (knownOf (d .plan))) rs
   pub total : allStages (d .plan) ≤ maxAllStages
+  pub summed : allStages (d .plan) ≡ stagesIn rs
   pub beyond : (i : ℕ) → allStages (d .plan) ≤ i → getD (d .plan .stages) i noStage ≡ noStage
   pub flags : (w : ℕ) → (at (d .bounded) w ≡ 1) ⊎ ((at (d .bounded) w ≡ 0) × (boundOf (d .plan) w ≡ 0))
   pub capacities : (i v : ℕ) → Entry (d .plan .capacity) i v ↔ Has rs (line 2 i v 0 0)
@@ -108,12 +110,12 @@ pub record Kept (rs : List Record) (d : Draft) : Type 0 where
   pub ranks : (i v : ℕ) → Entry (d .plan .rank) i v ↔ Has rs (line 7 i v 0 0)
 
 -- what questions 3 to 6 say of the next record
-pub record Taken (d : Draft) (r : Record) : Type 0 where
+pub record Taken (rs : List Record) (d : Draft) (r : Record) : Type 0 where
   pub follows : Follows (d .section) (r .section)
-  pub ranges : InRanges (knownOf (d .plan)) r
+  pub ranges : InKnown (knownOf (d .plan)) r
   pub blank : Blank r
   pub first : heldIn d r ≡ 0
-  pub total : allStages (written d r .plan) ≤ maxAllStages
+  pub total : WithinTotal rs r
 
 -- sizes stay
 set-keeps : {A : Type 0} (P : A → Type 0) (xs : List A) (i : ℕ) (x d : A) → P x → ((j : ℕ) → P (getD xs j d)) → (j : ℕ) → P (getD (set xs i x) j d)
@@ -305,19 +307,19 @@ found-at rs d kept r e there =
     ap (λ i. getD (d .plan .stages) i noStage) (written-at d r e)
     ∙ sym (stages.stage-here (d .plan) (typeIn r) (stageIn r) there (kept .total) (kept .sizes .stages) noStage)
 
-module _ (rs : List Record) (d : Draft) (kept : Kept rs d) (r : Record) (taken : Taken d r) where
+module _ (rs : List Record) (d : Draft) (kept : Kept rs d) (r : Record) (taken : Taken rs d r) where
   -- the stage that S or A names is one of the plan
   pub named : (r .section ≡ 4) ⊎ (r .section ≡ 6) → IsStage (d .plan) (typeIn r) (stageIn r)
   named (inl e) =
       let q = of-section 4 r e in
-      let in-range = subst (InRanges (knownOf (d .plan))) q (taken .ranges) in
+      let in-range = subst (InKnown (knownOf (d .plan))) q (taken .ranges) in
       subst (λ x. IsStage (d .plan) (typeIn x) (stageIn x)) (sym q) (in-range .0, in-range .1 .0)
   named (inr e) =
       let q = of-section 6 r e in
-      let in-range = subst (InRanges (knownOf (d .plan))) q (taken .ranges) in
+      let in-range = subst (InKnown (knownOf (d .plan))) q (taken .ranges) in
       subst (λ x. IsStage (d .plan) (typeIn x) (stageIn x)) (sym q) (in-range .1 .0, in-range .1 .1 .0)
 
-  total-same : r .section ≢ 1 → r .section ≢ 3 → allStages (written d r .plan) ≡ allStages (d .plan)
+  pub total-same : r .section ≢ 1 → r .section ≢ 3 → allStages (written d r .plan) ≡ allStages (d .plan)
   unfolding written allStages
   total-same a b = rw (ne-eqb (r .section) 1 a, ne-eqb (r .section) 3 b) refl
 

@@ -1,5 +1,5 @@
 -- A draft after one record more: what is kept stays kept, family by family.
-use Prim.Native.Nat.{ℕ, zero, suc, _≤_}
+use Prim.Native.Nat.{ℕ, zero, suc, _+_, _≤_, _<_}
 use native.Mathlib.Nat.{le-refl}
 use native.Mathlib.Omega.{arith}
 use mathlib.Core.Bool.{cond}
@@ -15,16 +15,17 @@ use Rattle.model.specs.Plan.{noStage, emptyPlan, allStages}
 use Rattle.model.specs.declared.Plan.{Plan}
 use Rattle.model.proofs.Decide.{decided, decides-eq}
 use Rattle.model.proofs.Lists.{replicated, append-each, each-map}
-use Rattle.plan_text.specs.Records.{Field, number, resource, kind, row, stage, units, Known, knownOf, highestIn, InFields, InRanges, Has}
+use Rattle.plan_text.specs.Records.{Field, number, resource, kind, row, stage, units, Known, knownOf, highestIn, Has}
+use Rattle.plan_text.specs.ReaderParts.{FieldsInKnown, InKnown}
 use Rattle.plan_text.specs.Records.{layoutOf, numbersOf}
 use Rattle.plan_text.specs.Written.{Draft, emptyDraft, entriesAfter, stageHere, written, heldIn}
-use Rattle.plan_text.specs.TextQuestions.{lastSection}
+use Rattle.plan_text.specs.TextQuestions.{lastSection, stagesIn}
 use Rattle.plan_text.specs.Meaning.{line}
 use Rattle.plan_text.specs.declared.Record.{Record}
-use Rattle.plan_text.proofs.RecordLists.{some-append, append-left, append-right, has-each, put-other}
+use Rattle.plan_text.proofs.RecordLists.{some-append, append-left, append-right, has-each, put-other, sum-put, sum-beyond, stages-append}
 use Rattle.plan_text.proofs.Sections.{of-section, Blank}
 use Rattle.plan_text.proofs.StageWritten.{blank-stage, stages-same}
-use Rattle.plan_text.proofs.Kept.{Entry, demandHalf, weightHalf, Ranged, Kept, Taken, sizes-after}
+use Rattle.plan_text.proofs.Kept.{Entry, demandHalf, weightHalf, Ranged, Kept, Taken, sizes-after, total-same}
 use Rattle.plan_text.proofs.Kept.{Own, entries-held, bounds-held, flags-held, demand-laws, weight-laws, half-held, beyond-after}
 
 -- what a plan has so far only grows, so a number in range stays in range
@@ -44,7 +45,7 @@ module _ (k l : Known) (grows : Grows k l) where
   highest-grows before stage = grows .lengths before
   highest-grows before units = grows .capacity before
 
-  fields-grow : (before : ℕ) (fs : List Field) (xs : List ℕ) → InFields k before fs xs → InFields l before fs xs
+  fields-grow : (before : ℕ) (fs : List Field) (xs : List ℕ) → FieldsInKnown k before fs xs → FieldsInKnown l before fs xs
   fields-grow before [] xs h = tt
   fields-grow before (f ∷ fs) [] h = h
   fields-grow before (f ∷ fs) (x ∷ xs) h = ((h .0 .0, omega (arith, h .0, highest-grows before f)), fields-grow x fs xs (h .1))
@@ -73,7 +74,7 @@ module _ (rs : List Record) (d : Draft) (kept : Kept rs d) where
       let fit = has-each (Ranged (knownOf (d .plan))) rs counts (kept .ranged) (kept .counted h) .ranges in
       (fit .0, fit .1 .0, fit .1 .1 .0 .1)
 
-  module _ (r : Record) (taken : Taken d r) where
+  module _ (r : Record) (taken : Taken rs d r) where
     past-first : r .section ≢ 1 → 1 ≤ d .section
     past-first ne = ⊎-elim (λ (h : 1 ≤ d .section). h) (λ (e : r .section ≡ 1). absurd (ne e)) (taken .follows .2)
 
@@ -82,8 +83,8 @@ module _ (rs : List Record) (d : Draft) (kept : Kept rs d) where
       abbrev numbered : Record
       numbered = line n (r .first) (r .second) (r .third) (r .fourth)
 
-      ranges-of : InRanges (knownOf (d .plan)) numbered
-      ranges-of = subst (InRanges (knownOf (d .plan))) (of-section n r e) (taken .ranges)
+      ranges-of : InKnown (knownOf (d .plan)) numbered
+      ranges-of = subst (InKnown (knownOf (d .plan))) (of-section n r e) (taken .ranges)
 
       blank-of : Blank numbered
       blank-of = subst Blank (of-section n r e) (taken .blank)
@@ -227,6 +228,39 @@ module _ (rs : List Record) (d : Draft) (kept : Kept rs d) where
         alone : rs ≡ [] → Has (rs ++ r ∷ []) (line 1 a b c 0) → r ≡ line 1 a b c 0
         alone none h = last (subst (λ qs. Has (qs ++ r ∷ []) (line 1 a b c 0)) none h)
 
+    -- the stages of all types grow by those of a T
+    length-added : r .section ≡ 3 → allStages (written d r .plan) ≡ allStages (d .plan) + r .second
+    unfolding written allStages
+    length-added e =
+        let own = own-length e in
+        rw e (sum-put (d .plan .lengths) (r .first) (r .second) (own .room) (own .empty) (d .plan .types) (ranges-of 3 e .0 .1))
+
+    no-length : (t : ℕ) → at (replicate maxTypes 0) t ≡ 0
+    no-length zero = refl
+    no-length (suc t) = replicated maxTypes t 0
+
+    nothing-added : r .section ≡ 1 → (allStages (written d r .plan) ≡ 0) × (stagesIn rs ≡ 0)
+    unfolding written allStages emptyDraft emptyPlan
+    nothing-added e =
+        let none = nothing-before e in
+        let zeros : (t : ℕ) → 0 < t → at (d .plan .lengths) t ≡ 0 = λ t h. ap (λ (c : Draft). at (c .plan .lengths) t) (none .1) ∙ no-length t in
+        (rw e (sum-beyond (at (d .plan .lengths)) 0 (r .second) (omega arith) zeros), ap stagesIn (none .0))
+
+    stages-more : allStages (written d r .plan) ≡ stagesIn (rs ++ r ∷ [])
+    stages-more =
+        let both = stages-append rs (r ∷ []) in
+        ⊎-elim (λ (e : r .section ≡ 3). both-said (rw (eq-eqb (r .section) 3 e) at both) (length-added e))
+        (λ (ne : ¬ (r .section ≡ 3)).
+        let same : stagesIn (rs ++ r ∷ []) ≡ stagesIn rs + (0 + 0) = rw (ne-eqb (r .section) 3 ne) at both in
+        ⊎-elim (λ (e : r .section ≡ 1). omega (arith, same, nothing-added e))
+        (λ (n : ¬ (r .section ≡ 1)). omega (arith, same, total-same rs d kept r taken n ne, kept .summed))
+        (decided (decides-eq (r .section) 1)))
+        (decided (decides-eq (r .section) 3))
+      where
+        both-said : stagesIn (rs ++ r ∷ []) ≡ stagesIn rs + (r .second + 0) → allStages (written d r .plan) ≡ allStages (d .plan) + r .second
+            → allStages (written d r .plan) ≡ stagesIn (rs ++ r ∷ [])
+        both-said said added = omega (arith, said, added, kept .summed)
+
     pub kept-after : Kept (rs ++ r ∷ []) (written d r)
     unfolding written
     kept-after =
@@ -242,7 +276,8 @@ module _ (rs : List Record) (d : Draft) (kept : Kept rs d) where
           ranged = append-each (Ranged (knownOf (written d r .plan))) rs (r ∷ [])
               (each-map (Ranged (knownOf (d .plan))) (Ranged (knownOf (written d r .plan))) (ranged-grows _ _ grows) rs (kept .ranged))
               (ranged-grows _ _ grows r (record { section = taken .follows .0; ranges = taken .ranges; blank = taken .blank }), tt);
-          total = taken .total;
+          total = omega (arith, stages-more, taken .total, stages-append rs (r ∷ []));
+          summed = stages-more;
           beyond = beyond-after rs d kept r taken;
           flags = flags-held (d .bounded) (d .plan .bound) rs r (kept .bounds) (kept .flags) (λ e. own-bound e .1);
           capacities = entries-held 2 (d .plan .capacity) rs r (kept .capacities) own-capacity;
@@ -271,6 +306,7 @@ nothing-kept =
       unwritten = λ low. refl;
       ranged = tt;
       total = omega arith;
+      summed = refl;
       beyond = λ i h. replicated maxAllStages i noStage;
       flags = unmarked;
       capacities = λ i v. (no-entry maxResources i v, λ h. absurd h);

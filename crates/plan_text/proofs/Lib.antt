@@ -10,6 +10,7 @@ pub mod Kept
 pub mod KeptAfter
 pub mod RecordQuestions
 pub mod Completeness
+pub mod RecordsSay
 pub mod FirstFailure
 pub mod AcceptedText
 pub mod SamePlan

@@ -20,7 +20,8 @@ use Rattle.model.specs.declared.Stage.{Stage}
 use Rattle.model.proofs.Decide.{decided, decides-eq, decides-le, holds}
 use Rattle.model.proofs.Flat.{sum-up-to}
 use Rattle.plan_text.specs.Lines.{Line}
-use Rattle.plan_text.specs.Records.{Known, knownOf, recordIn, InRanges, inRanges}
+use Rattle.plan_text.specs.Records.{Known, knownOf, recordIn, inRanges}
+use Rattle.plan_text.specs.ReaderParts.{InKnown}
 use Rattle.plan_text.specs.Written.{Draft, put, indexIn, entriesAfter, boundedAfter, stageAfter, written, heldIn, changed}
 use Rattle.plan_text.specs.Reading.{refused, formQuestions, withinTotal, recordQuestions, ofLine, readFrom}
 use Rattle.plan_text.specs.TextQuestions.{isAccepted}
@@ -99,8 +100,8 @@ module _ (n from : ℕ) (d : Draft) (l : Line) (ls : List Line) where
 
 -- numbers in range are what a plan's entries can hold
 module _ (k : Known) (bytes : (i : ℕ) → at (k .capacity) i ≤ 255) (r : Record) (met : inRanges k r ≡ true) where
-  ranges-of : (n : ℕ) → r .section ≡ n → InRanges k (line n (r .first) (r .second) (r .third) (r .fourth))
-  ranges-of n e = subst (InRanges k) (of-section n r e) (holds (decides-ranges k r) met)
+  ranges-of : (n : ℕ) → r .section ≡ n → InKnown k (line n (r .first) (r .second) (r .third) (r .fourth))
+  ranges-of n e = subst (InKnown k) (of-section n r e) (holds (decides-ranges k r) met)
 
   uncut : (x n : ℕ) → x < n → x % n ≡ x
   uncut x n h = mod-eq-of-lt h
@@ -212,7 +213,7 @@ module _ (k : Known) (r : Record) (met : inRanges k r ≡ true) where
   few-after few within =
       ⊎-elim
       (λ (e : r .section ≡ 3).
-      let ranges = subst (InRanges k) (of-section 3 r e) (holds (decides-ranges k r) met) in
+      let ranges = subst (InKnown k) (of-section 3 r e) (holds (decides-ranges k r) met) in
       let fits : leb (sumTo maxTypes (at (k .lengths)) + r .second) maxAllStages ≡ true = rw (eq-eqb (r .section) 3 e) at within in
       let most = sum-most (k .lengths) (r .first) (r .second) (ranges .0 .0) maxTypes in
       rw (eq-eqb (r .section) 3 e) (omega (arith, most, leb-true (sumTo maxTypes (at (k .lengths)) + r .second) maxAllStages fits)))
@@ -224,7 +225,7 @@ module _ (k : Known) (r : Record) (met : inRanges k r ≡ true) where
   small-after small i =
       ⊎-elim
       (λ (e : r .section ≡ 2).
-      let ranges = subst (InRanges k) (of-section 2 r e) (holds (decides-ranges k r) met) in
+      let ranges = subst (InKnown k) (of-section 2 r e) (holds (decides-ranges k r) met) in
       rw (eq-eqb (r .section) 2 e)
       (⊎-elim
       (λ (same : i ≡ r .first).
@@ -254,8 +255,8 @@ module _ (k : Known) (r : Record) (met : inRanges k r ≡ true) where
           → indexIn (k .lengths) r < maxAllStages
       place n e h = subst (λ q. indexIn (k .lengths) q < maxAllStages) (sym (of-section n r e)) h
 
-      ranges : (n : ℕ) → r .section ≡ n → InRanges k (line n (r .first) (r .second) (r .third) (r .fourth))
-      ranges n e = subst (InRanges k) (of-section n r e) (holds (decides-ranges k r) met)
+      ranges : (n : ℕ) → r .section ≡ n → InKnown k (line n (r .first) (r .second) (r .third) (r .fourth))
+      ranges n e = subst (InKnown k) (of-section n r e) (holds (decides-ranges k r) met)
 
       go : (r .section ≡ 4) ⊎ (¬ (r .section ≡ 4)) → (r .section ≡ 6) ⊎ (¬ (r .section ≡ 6)) → indexIn (k .lengths) r < maxAllStages
       go (inl e) b = place 4 e (stage-fits size few (r .first) (r .second) (ranges 4 e .0) (ranges 4 e .1 .0))

@@ -1,6 +1,6 @@
 -- Lists of records: what some record of a list is, and how values that are held exactly when a list has their records stay so
 -- when one record is added and its entry written.
-use Prim.Native.Nat.{ℕ, zero, suc, _-_, _≤_, _<_}
+use Prim.Native.Nat.{ℕ, zero, suc, _+_, _-_, _≤_, _<_}
 use native.Mathlib.Numerals.{sub-one}
 use native.Mathlib.Omega.{arith}
 use mathlib.Core.Bool.{Bool, true, false, cond}
@@ -11,7 +11,9 @@ use lib.Dec.{eqb}
 use lib.ListN.{length, length-set}
 use lib.Seq.{getD-set-same, getD-set-other}
 use Rattle.model.specs.Numbers.{InRange, at, sumTo, Each}
+use Rattle.model.proofs.Decide.{decided, decides-eq}
 use Rattle.plan_text.specs.Records.{Some, Has}
+use Rattle.plan_text.specs.TextQuestions.{stagesIn}
 use Rattle.plan_text.specs.Written.{put, entriesAfter}
 use Rattle.plan_text.specs.declared.Record.{Record}
 
@@ -121,3 +123,32 @@ entries-length n xs r = go (eqb (r .section) n)
 pub sum-before : (xs : List ℕ) (i x : ℕ) → 1 ≤ i → (n : ℕ) → n < i → sumTo n (at (put xs i x)) ≡ sumTo n (at xs)
 sum-before xs i x low zero h = refl
 sum-before xs i x low (suc n) h = rw (sum-before xs i x low n (omega arith), put-other xs i (suc n) x low (λ e. omega arith)) refl
+
+-- the sum after one is put where there was 0, and a sum beyond which there are only zeros
+module _ (xs : List ℕ) (i v : ℕ) (room : InRange i (length xs)) (empty : at xs i ≡ 0) where
+  pub sum-put : (n : ℕ) → i ≤ n → sumTo n (at (put xs i v)) ≡ sumTo n (at xs) + v
+  sum-put zero h = absurd (omega (arith, room))
+  sum-put (suc n) h =
+      ⊎-elim
+      (λ (e : suc n ≡ i).
+      let before = sum-before xs i v (room .0) n (omega arith) in
+      let last : at (put xs i v) (suc n) ≡ v = ap (at (put xs i v)) e ∙ put-same xs i v room in
+      let old : at xs (suc n) ≡ 0 = ap (at xs) e ∙ empty in
+      omega (arith, before, last, old))
+      (λ (ne : ¬ (suc n ≡ i)).
+      let before = sum-put n (omega (arith, ne)) in
+      let last = put-other xs i (suc n) v (room .0) ne in
+      omega (arith, before, last))
+      (decided (decides-eq (suc n) i))
+
+pub sum-beyond : (f : ℕ → ℕ) (n m : ℕ) → n ≤ m → ((t : ℕ) → n < t → f t ≡ 0) → sumTo m f ≡ sumTo n f
+sum-beyond f n zero h zeros = let e : n ≡ 0 = omega arith in rw e refl
+sum-beyond f n (suc m) h zeros =
+    ⊎-elim (λ (e : n ≡ suc m). rw e refl)
+    (λ (ne : ¬ (n ≡ suc m)). omega (arith, sum-beyond f n m (omega (arith, ne)) zeros, zeros (suc m) (omega (arith, ne))))
+    (decided (decides-eq n (suc m)))
+
+-- the stages that two lists of records say together
+pub stages-append : (rs qs : List Record) → stagesIn (rs ++ qs) ≡ stagesIn rs + stagesIn qs
+stages-append [] qs = omega arith
+stages-append (r ∷ rs) qs = omega (arith, stages-append rs qs)

@@ -1,40 +1,107 @@
--- Questions 5 and 6 of a record: the tests decide what is asked, since what is held under a key is there exactly when a record
--- with that key was read, and the stages of all types add up.
-use Prim.Native.Nat.{ℕ, zero, suc, _+_, _≤_, _<_}
+-- Questions 5 and 6 of a record: the tests decide what is asked, since a plan so far has what the records before say, what is held
+-- under a key is there exactly when a record with that key was read, and the stages of all types add up.
+use Prim.Native.Nat.{ℕ, _+_, _≤_, _<_}
 use native.Mathlib.Omega.{arith}
 use mathlib.Core.List.{List, [], _∷_}
 use mathlib.Core.Logic.{_≢_, _⊎_, inl, inr, ⊎-elim, _↔_}
 use mathlib.Core.Path.{_≡_, refl, sym, ap, subst, _∙_}
-use lib.Dec.{eqb, leb}
-use lib.ListN.{length, getD, replicate}
+use lib.Dec.{eqb}
+use lib.ListN.{getD}
 use borrow.Author.Tests.{eq-eqb, ne-eqb}
 use Rattle.model.specs.Limits.{maxTypes, maxAllStages}
 use Rattle.model.specs.Numbers.{InRange, at, sumTo, Each}
 use Rattle.model.specs.Plan.{emptyPlan, allStages, boundOf, stageOf}
+use Rattle.model.specs.declared.Plan.{Plan}
 use Rattle.model.proofs.Decide.{Decides, holding, failing, decided, decides-iff, decides-eq, decides-le, _and_}
-use Rattle.model.proofs.Lists.{replicated}
-use Rattle.plan_text.specs.Records.{Field, Known, knownOf, InFields, fitsFields, lowestIn, highestIn, InRanges, inRanges, layoutOf, numbersOf}
-use Rattle.plan_text.specs.Records.{keyOf, Some, Has, sections}
-use Rattle.plan_text.specs.Written.{Draft, emptyDraft, put, written, heldIn}
-use Rattle.plan_text.specs.TextQuestions.{FirstWithKey}
+use Rattle.plan_text.specs.Records.{Field, number, resource, kind, row, stage, units, Known, knownOf, fitsFields, lowestIn, highestIn, inRanges}
+use Rattle.plan_text.specs.Records.{layoutOf, numbersOf, keyOf, Some, Has, sections}
+use Rattle.plan_text.specs.Written.{Draft, emptyDraft, heldIn}
+use Rattle.plan_text.specs.TextQuestions.{IsResource, IsType, IsRow, IsStageOf, InField, InFields, InRanges, FirstWithKey, WithinTotal}
 use Rattle.plan_text.specs.Reading.{withinTotal}
-use Rattle.plan_text.specs.Meaning.{line}
+use Rattle.plan_text.specs.ReaderParts.{FieldsInKnown, InKnown}
+use Rattle.plan_text.specs.Meaning.{line, C}
 use Rattle.plan_text.specs.declared.Record.{Record}
-use Rattle.plan_text.proofs.RecordLists.{each-some, none-each, each-none, some-map, has-each, put-same, put-other, sum-before}
+use Rattle.plan_text.proofs.RecordLists.{each-some, none-each, each-none, some-map, has-each, sum-beyond}
 use Rattle.plan_text.proofs.Sections.{of-section, one-of-seven, Blank}
 use Rattle.plan_text.proofs.Kept.{Entry, Bounded, demandHalf, weightHalf, InPlace, Ranged, Kept, found-at}
 use Rattle.plan_text.proofs.KeptAfter.{counts-fit}
 
 -- 5: the ranges of the fields
 module _ (k : Known) where
-  decides-fields : (before : ℕ) (fs : List Field) (xs : List ℕ) → Decides (InFields k before fs xs) (fitsFields k before fs xs)
+  decides-fields : (before : ℕ) (fs : List Field) (xs : List ℕ) → Decides (FieldsInKnown k before fs xs) (fitsFields k before fs xs)
   decides-fields before [] xs = holding tt
   decides-fields before (f ∷ fs) [] = failing (λ h. h)
   decides-fields before (f ∷ fs) (x ∷ xs) = (decides-le (lowestIn f) x and decides-le x (highestIn k before f)) and decides-fields x fs xs
 
-  pub decides-ranges : (r : Record) → Decides (InRanges k r) (inRanges k r)
+  pub decides-ranges : (r : Record) → Decides (InKnown k r) (inRanges k r)
   unfolding inRanges
   decides-ranges r = decides-fields 0 (layoutOf (r .section)) (numbersOf r)
+
+-- what a plan so far has is what the records before say
+module _ (rs : List Record) (d : Draft) (kept : Kept rs d) where
+  pub counted : (of : Plan → ℕ) → of emptyPlan ≡ 0 → 1 ≤ of (d .plan) → Has rs (C (d .plan .resources) (d .plan .types) (d .plan .rows))
+  unfolding emptyDraft
+  counted of none some =
+      kept .counted
+      (⊎-elim (λ (e : d .section ≡ 0). absurd (omega (arith, ap (λ (c : Draft). of (c .plan)) (kept .fresh e .1), none, some)))
+      (λ (ne : ¬ (d .section ≡ 0)). omega (arith, ne))
+      (decided (decides-eq (d .section) 0)))
+
+  module _ (x : ℕ) where
+    pub resource-told : InRange x (d .plan .resources) ↔ IsResource rs x
+    unfolding emptyPlan
+    resource-told = (
+      λ h. (_, _, _, counted (λ p. p .resources) refl (omega (arith, h)), h),
+      λ h. let e = kept .one-count _ _ _ (h .3) in (h .4 .0, omega (arith, h .4, e .0)),
+    )
+
+    pub type-told : InRange x (d .plan .types) ↔ IsType rs x
+    unfolding emptyPlan
+    type-told = (
+      λ h. (_, _, _, counted (λ p. p .types) refl (omega (arith, h)), h),
+      λ h. let e = kept .one-count _ _ _ (h .3) in (h .4 .0, omega (arith, h .4, e .1)),
+    )
+
+    pub row-told : InRange x (d .plan .rows) ↔ IsRow rs x
+    unfolding emptyPlan
+    row-told = (
+      λ h. (_, _, _, counted (λ p. p .rows) refl (omega (arith, h)), h),
+      λ h. let e = kept .one-count _ _ _ (h .3) in (h .4 .0, omega (arith, h .4, e .2)),
+    )
+
+  -- up to an entry of a list, which a record says
+  entry-told : (n : ℕ) (xs : List ℕ) → ((i v : ℕ) → Entry xs i v ↔ Has rs (line n i v 0 0))
+      → (i x : ℕ) → InRange x (at xs i) ↔ ((v : ℕ) × Has rs (line n i v 0 0) × InRange x v)
+  entry-told n xs held i x = (
+    λ h. (at xs i, held i (at xs i) .0 (omega (arith, h), refl), h),
+    λ h. let e = held i (h .0) .1 (h .1) in (h .2 .0, omega (arith, h .2, e .1)),
+  )
+
+  pub stage-told : (t k : ℕ) → InRange k (at (d .plan .lengths) t) ↔ IsStageOf rs t k
+  stage-told = entry-told 3 (d .plan .lengths) (kept .lengths)
+
+  field-told : (before : ℕ) (f : Field) (x : ℕ) → ((lowestIn f ≤ x) × (x ≤ highestIn (knownOf (d .plan)) before f)) ↔ InField rs before f x
+  field-told before (number low high) x = (λ h. h, λ h. h)
+  field-told before resource x = resource-told x
+  field-told before kind x = type-told x
+  field-told before row x = row-told x
+  field-told before stage x = stage-told before x
+  field-told before units x = entry-told 2 (d .plan .capacity) (kept .capacities) before x
+
+  fields-told : (before : ℕ) (fs : List Field) (xs : List ℕ) → FieldsInKnown (knownOf (d .plan)) before fs xs ↔ InFields rs before fs xs
+  fields-told before [] xs = (λ h. h, λ h. h)
+  fields-told before (f ∷ fs) [] = (λ h. h, λ h. h)
+  fields-told before (f ∷ fs) (x ∷ xs) = (
+    λ h. (field-told before f x .0 (h .0), fields-told x fs xs .0 (h .1)),
+    λ h. (field-told before f x .1 (h .0), fields-told x fs xs .1 (h .1)),
+  )
+
+  -- so a number is in range by the plan so far exactly when it is by the records
+  pub ranges-told : (r : Record) → InKnown (knownOf (d .plan)) r ↔ InRanges rs r
+  ranges-told r = fields-told 0 (layoutOf (r .section)) (numbersOf r)
+
+  pub decides-in-ranges : (r : Record) → Decides (InRanges rs r) (inRanges (knownOf (d .plan)) r)
+  decides-in-ranges r = decides-iff (ranges-told r .0) (ranges-told r .1) (decides-ranges (knownOf (d .plan)) r)
 
 -- 6: under the key of a record, of which x is held, stands a value or none
 module _ {K : Type 0} (of : K → ℕ → Record) (Here : K → ℕ → Type 0) (rs : List Record) (known : Known) (ranged : Each (Ranged known) rs)
@@ -124,7 +191,7 @@ module _ (rs : List Record) (d : Draft) (kept : Kept rs d) where
       (λ q ranged same. pair-made 5 a (λ x y z w. refl) (λ x y z w h. (h .0, h .1 .0)) known q ranged same)
 
   -- a stage's entry
-  decides-demand : (a b c e : ℕ) → InRanges known (line 4 a b c e) → Decides (FirstWithKey rs (line 4 a b c e)) (eqb (heldIn d (line 4 a b c e)) 0)
+  decides-demand : (a b c e : ℕ) → InKnown known (line 4 a b c e) → Decides (FirstWithKey rs (line 4 a b c e)) (eqb (heldIn d (line 4 a b c e)) 0)
   unfolding heldIn
   decides-demand a b c e fit =
       let here = found-at rs d kept (line 4 a b c e) (inl refl) (fit .0, fit .1 .0) in
@@ -133,7 +200,7 @@ module _ (rs : List Record) (d : Draft) (kept : Kept rs d) where
       (at (stageOf (d .plan) a b .demand) c) (λ z v h. omega (arith, h, z)) (λ ne. (_, (omega (arith, ne), refl))) (λ v. refl)
       (λ q ranged same. triple-made 4 a b c (λ x y z w. refl) known q ranged same))
 
-  decides-weight : (a b c e : ℕ) → InRanges known (line 6 a b c e) → Decides (FirstWithKey rs (line 6 a b c e)) (eqb (heldIn d (line 6 a b c e)) 0)
+  decides-weight : (a b c e : ℕ) → InKnown known (line 6 a b c e) → Decides (FirstWithKey rs (line 6 a b c e)) (eqb (heldIn d (line 6 a b c e)) 0)
   unfolding heldIn
   decides-weight a b c e fit =
       let here = found-at rs d kept (line 6 a b c e) (inr refl) (fit .1 .0, fit .1 .1 .0) in
@@ -142,7 +209,7 @@ module _ (rs : List Record) (d : Draft) (kept : Kept rs d) where
       (at (stageOf (d .plan) b c .weight) a) (λ z v h. omega (arith, h, z)) (λ ne. (_, (omega (arith, ne), refl))) (λ v. refl)
       (λ q ranged same. triple-made 6 a b c (λ x y z w. refl) known q ranged same))
 
-  pub decides-first : (r : Record) → InRange (r .section) sections → InRanges known r → Decides (FirstWithKey rs r) (eqb (heldIn d r) 0)
+  pub decides-first : (r : Record) → InRange (r .section) sections → InKnown known r → Decides (FirstWithKey rs r) (eqb (heldIn d r) 0)
   unfolding heldIn
   decides-first r section fit =
       one-of-seven (λ n. r .section ≡ n → Decides (FirstWithKey rs r) (eqb (heldIn d r) 0))
@@ -161,37 +228,13 @@ module _ (rs : List Record) (d : Draft) (kept : Kept rs d) where
       (decides-entry 7 (d .plan .rank) (kept .ranks) (λ x y z w. refl) (λ x y z w h. (h .0, h .1 .0)) (r .first) (r .second) (r .third) (r .fourth)))
       (r .section) section refl
     where
-      fit-at : (n : ℕ) → r .section ≡ n → InRanges known (line n (r .first) (r .second) (r .third) (r .fourth))
-      fit-at n e = subst (InRanges known) (of-section n r e) fit
+      fit-at : (n : ℕ) → r .section ≡ n → InKnown known (line n (r .first) (r .second) (r .third) (r .fourth))
+      fit-at n e = subst (InKnown known) (of-section n r e) fit
 
       at-section : (n : ℕ) → r .section ≡ n
           → (let q = line n (r .first) (r .second) (r .third) (r .fourth) in Decides (FirstWithKey rs q) (eqb (heldIn d q) 0))
           → Decides (FirstWithKey rs r) (eqb (heldIn d r) 0)
       at-section n e h = subst (λ q. Decides (FirstWithKey rs q) (eqb (heldIn d q) 0)) (sym (of-section n r e)) h
-
--- 5 of all types together: the stages add up
-module _ (xs : List ℕ) (i v : ℕ) (room : InRange i (length xs)) (empty : at xs i ≡ 0) where
-  pub sum-put : (n : ℕ) → i ≤ n → sumTo n (at (put xs i v)) ≡ sumTo n (at xs) + v
-  sum-put zero h = absurd (omega (arith, room))
-  sum-put (suc n) h =
-      ⊎-elim
-      (λ (e : suc n ≡ i).
-      let before = sum-before xs i v (room .0) n (omega arith) in
-      let last : at (put xs i v) (suc n) ≡ v = ap (at (put xs i v)) e ∙ put-same xs i v room in
-      let old : at xs (suc n) ≡ 0 = ap (at xs) e ∙ empty in
-      omega (arith, before, last, old))
-      (λ (ne : ¬ (suc n ≡ i)).
-      let before = sum-put n (omega (arith, ne)) in
-      let last = put-other xs i (suc n) v (room .0) ne in
-      omega (arith, before, last))
-      (decided (decides-eq (suc n) i))
-
-pub sum-beyond : (f : ℕ → ℕ) (n m : ℕ) → n ≤ m → ((t : ℕ) → n < t → f t ≡ 0) → sumTo m f ≡ sumTo n f
-sum-beyond f n zero h zeros = let e : n ≡ 0 = omega arith in rw e refl
-sum-beyond f n (suc m) h zeros =
-    ⊎-elim (λ (e : n ≡ suc m). rw e refl)
-    (λ (ne : ¬ (n ≡ suc m)). omega (arith, sum-beyond f n m (omega (arith, ne)) zeros, zeros (suc m) (omega (arith, ne))))
-    (decided (decides-eq n (suc m)))
 
 module _ (rs : List Record) (d : Draft) (kept : Kept rs d) where
   -- only types of the plan have stages
@@ -209,40 +252,15 @@ module _ (rs : List Record) (d : Draft) (kept : Kept rs d) where
   unfolding allStages
   total-of h = sum-beyond (at (d .plan .lengths)) (d .plan .types) maxTypes h no-more-types
 
-  module _ (r : Record) (section : InRange (r .section) sections) (fit : InRanges (knownOf (d .plan)) r) (first : heldIn d r ≡ 0)
-      (past : (1 ≤ d .section) ⊎ (r .section ≡ 1)) where
-    decides-length : r .section ≡ 3
-        → Decides (allStages (written d r .plan) ≤ maxAllStages) (leb (sumTo maxTypes (at (d .plan .lengths)) + r .second) maxAllStages)
-    unfolding written heldIn allStages
-    decides-length e =
-        let q = of-section 3 r e in
-        let ranges = subst (InRanges (knownOf (d .plan))) q fit in
-        let empty = subst (λ x. heldIn d x ≡ 0) q first in
-        let counts = counts-fit rs d kept (⊎-elim (λ (h : 1 ≤ d .section). h) (λ (f : r .section ≡ 1). absurd (omega arith)) past) in
-        let room : InRange (r .first) (length (d .plan .lengths)) = (ranges .0 .0, omega (arith, ranges, counts, kept .sizes .lengths)) in
-        let added = sum-put (d .plan .lengths) (r .first) (r .second) room empty (d .plan .types) (ranges .0 .1) in
-        let before = total-of (counts .1 .1) in
-        rw e (decides-iff (λ h. omega (arith, added, before)) (λ h. omega (arith, added, before))
-        (decides-le (sumTo maxTypes (at (d .plan .lengths)) + r .second) maxAllStages))
-
-    within-other : r .section ≢ 3 → allStages (written d r .plan) ≤ maxAllStages
-    unfolding written allStages emptyDraft emptyPlan heldIn
-    within-other ne =
-        ⊎-elim
-        (λ (e : r .section ≡ 1).
-        let none = kept .fresh (subst (λ x. heldIn d x ≡ 0) (of-section 1 r e) first) .1 in
-        let zeros : (t : ℕ) → 0 < t → at (d .plan .lengths) t ≡ 0 = λ t h. ap (λ (c : Draft). at (c .plan .lengths) t) none ∙ no-length t in
-        let sum = sum-beyond (at (d .plan .lengths)) 0 (r .second) (omega arith) zeros in
-        rw e (omega (arith, sum)))
-        (λ (n : ¬ (r .section ≡ 1)). rw (ne-eqb (r .section) 1 n, ne-eqb (r .section) 3 ne) (kept .total))
-        (decided (decides-eq (r .section) 1))
-      where
-        no-length : (t : ℕ) → at (replicate maxTypes 0) t ≡ 0
-        no-length zero = refl
-        no-length (suc t) = replicated maxTypes t 0
-
-    pub decides-total : Decides (allStages (written d r .plan) ≤ maxAllStages) (withinTotal (d .plan .lengths) r)
-    decides-total =
-        ⊎-elim (λ (e : r .section ≡ 3). rw (eq-eqb (r .section) 3 e) (decides-length e))
-        (λ (ne : ¬ (r .section ≡ 3)). rw (ne-eqb (r .section) 3 ne) (holding (within-other ne)))
-        (decided (decides-eq (r .section) 3))
+  -- 5 of all types together: the stages add up
+  pub decides-total : (r : Record) → (1 ≤ d .section) ⊎ (r .section ≡ 1) → Decides (WithinTotal rs r) (withinTotal (d .plan .lengths) r)
+  decides-total r past =
+      ⊎-elim
+      (λ (e : r .section ≡ 3).
+      let counts = counts-fit rs d kept (⊎-elim (λ (h : 1 ≤ d .section). h) (λ (f : r .section ≡ 1). absurd (omega arith)) past) in
+      let before = total-of (counts .1 .1) in
+      rw (eq-eqb (r .section) 3 e)
+      (decides-iff (λ h. omega (arith, before, kept .summed)) (λ h. omega (arith, before, kept .summed))
+      (decides-le (sumTo maxTypes (at (d .plan .lengths)) + r .second) maxAllStages)))
+      (λ (ne : ¬ (r .section ≡ 3)). rw (ne-eqb (r .section) 3 ne) (holding (omega (arith, kept .summed, kept .total))))
+      (decided (decides-eq (r .section) 3))

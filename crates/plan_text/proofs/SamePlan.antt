@@ -1,5 +1,4 @@
--- What records say of a plan, and that they say it whole: two sound plans that the same records say are equal, since every entry is
--- told by the records.
+-- Records say a plan whole: two sound plans that the same records say are equal, since every entry is told by the records.
 use Prim.Native.Nat.{ℕ, zero, suc, _+_, _-_, _≤_, _<_}
 use native.Mathlib.Numerals.{sub-one}
 use native.Mathlib.Omega.{arith}
@@ -15,36 +14,13 @@ use Rattle.model.specs.declared.Plan.{Plan}
 use Rattle.model.proofs.Decide.{decided, decides-eq, decides-le}
 use Rattle.plan_text.specs.Lines.{linesOf}
 use Rattle.plan_text.specs.Records.{Has}
-use Rattle.plan_text.specs.Written.{draftOf, planOf}
-use Rattle.plan_text.specs.TextQuestions.{textNumber, recordsOf, Complete}
+use Rattle.plan_text.specs.TextQuestions.{textNumber, recordsOf}
 use Rattle.plan_text.specs.Reading.{reading}
-use Rattle.plan_text.specs.Meaning.{line, R, T, S, A, K, Says, Sized, SameRecords}
+use Rattle.plan_text.specs.Meaning.{R, T, S, B, A, K, SaysSoFar, Says, Sized, SameRecords}
 use Rattle.plan_text.specs.declared.Record.{Record}
 use Rattle.plan_text.proofs.StageWritten.{stage-here}
-use Rattle.plan_text.proofs.Kept.{Kept}
-use Rattle.plan_text.proofs.Completeness.{complete-bounds, counted-section}
+use Rattle.plan_text.proofs.RecordsSay.{records-say, records-sized}
 use Rattle.plan_text.proofs.AcceptedText.{accepted-whole, accepted-sound}
-
--- a row of the plan has its bound
-marked : (rs : List Record) (kept : Kept rs (draftOf rs)) → Complete rs → (w : ℕ) → InRange w (planOf rs .rows) → at (draftOf rs .bounded) w ≡ 1
-marked rs kept c w within =
-    ⊎-elim (λ (m : at (draftOf rs .bounded) w ≡ 1). m) (λ m. absurd (omega (arith, m .0, complete-bounds rs kept c w within))) (kept .flags w)
-
-pub records-say : (rs : List Record) → Kept rs (draftOf rs) → Complete rs → Says rs (planOf rs)
-unfolding demandOf weightOf
-records-say rs kept c =
-    record {
-      counts = λ i j l. (
-        λ e. subst (Has rs) (λ z. line 1 (e .0 z) (e .1 z) (e .2 z) 0) (kept .counted (counted-section rs (draftOf rs) kept (c .counts))),
-        λ has. let e = kept .one-count i j l has in (sym (e .0), sym (e .1), sym (e .2)),
-      );
-      capacities = λ r v h. (λ e. kept .capacities r v .0 (h, e), λ has. kept .capacities r v .1 has .1);
-      lengths = λ t v h. (λ e. kept .lengths t v .0 (h, e), λ has. kept .lengths t v .1 has .1);
-      demands = λ t k r v h. (λ e. kept .demands (t, k, r) v .0 (h, e), λ has. kept .demands (t, k, r) v .1 has .1);
-      bounds = λ w v within. (λ e. kept .bounds w v .0 (marked rs kept c w within, e), λ has. kept .bounds w v .1 has .1);
-      weights = λ w t k v h. (λ e. kept .weights (t, k, w) v .0 (h, e), λ has. kept .weights (t, k, w) v .1 has .1);
-      ranks = λ r v h. (λ e. kept .ranks r v .0 (h, e), λ has. kept .ranks r v .1 has .1);
-    }
 
 -- every index below the stages of n types is that of a stage
 module _ (len : ℕ → ℕ) where
@@ -83,26 +59,16 @@ lists-equal : (xs ys : List ℕ) → length xs ≡ length ys → ((i : ℕ) → 
 lists-equal xs ys size same = ext-getD 0 xs ys size (λ i h. same (suc i))
 
 -- two sound plans that the same records say
-module _ (rs : List Record) (p q : Plan) (sized : Sized p) (as-sized : Sized q) (sound : Sound p) (as-sound : Sound q) (says : Says rs p)
-    (too : Says rs q) where
+module _ (rs : List Record) (p q : Plan) (sized : Sized p) (as-sized : Sized q) (sound : Sound p) (as-sound : Sound q) (says : SaysSoFar rs p)
+    (too : SaysSoFar rs q) where
   counts-told : (p .resources ≡ q .resources) × (p .types ≡ q .types) × (p .rows ≡ q .rows)
-  counts-told = says .counts _ _ _ .1 (too .counts _ _ _ .0 (refl, refl, refl))
+  counts-told = let some = as-sound .resources .0 in says .counts _ _ _ some .1 (too .counts _ _ _ some .0 (refl, refl, refl))
 
   -- a value under each key
   entries-told : {K : Type 0} (of : K → ℕ → Record) (f g : K → ℕ) → ((i : K) (v : ℕ) → 1 ≤ v → (f i ≡ v) ↔ Has rs (of i v))
       → ((i : K) (v : ℕ) → 1 ≤ v → (g i ≡ v) ↔ Has rs (of i v)) → (i : K) → f i ≡ g i
   entries-told of f g held holds i =
       told (f i) (g i) (λ v h e. holds i v h .1 (held i v h .0 e)) (λ v h e. held i v h .1 (holds i v h .0 e))
-
-  bounds-told : (w : ℕ) → boundOf p w ≡ boundOf q w
-  bounds-told zero = refl
-  bounds-told (suc w) =
-      ⊎-elim
-      (λ (h : suc w ≤ p .rows).
-      let within : suc w ≤ q .rows = omega (arith, counts-told .2) in
-      says .bounds (suc w) (boundOf q (suc w)) (omega arith, h) .1 (too .bounds (suc w) (boundOf q (suc w)) (omega arith, within) .0 refl))
-      (λ (h : ¬ (suc w ≤ p .rows)). sound .no-more-bounds (suc w) (omega arith) ∙ sym (as-sound .no-more-bounds (suc w) (omega (arith, counts-told .2))))
-      (decided (decides-le (suc w) (p .rows)))
 
   lengths-told : p .lengths ≡ q .lengths
   lengths-told = lists-equal _ _ (sized .lengths ∙ sym (as-sized .lengths)) (entries-told T (lengthOf p) (lengthOf q) (says .lengths) (too .lengths))
@@ -157,7 +123,7 @@ module _ (rs : List Record) (p q : Plan) (sized : Sized p) (as-sized : Sized q) 
   says-whole =
       let capacity = lists-equal _ _ (sized .capacity ∙ sym (as-sized .capacity)) (entries-told R (capacityOf p) (capacityOf q) (says .capacities) (too .capacities)) in
       let rank = lists-equal _ _ (sized .rank ∙ sym (as-sized .rank)) (entries-told K (rankOf p) (rankOf q) (says .ranks) (too .ranks)) in
-      let bound = lists-equal _ _ (sized .bound ∙ sym (as-sized .bound)) bounds-told in
+      let bound = lists-equal _ _ (sized .bound ∙ sym (as-sized .bound)) (entries-told B (boundOf p) (boundOf q) (says .bounds) (too .bounds)) in
       let stages = ext-getD noStage (p .stages) (q .stages) (sized .stages ∙ sym (as-sized .stages)) (λ i h. stage-told i) in
       λ i. record {
         resources = counts-told .0 i;
@@ -171,14 +137,14 @@ module _ (rs : List Record) (p q : Plan) (sized : Sized p) (as-sized : Sized q) 
       }
 
 -- what is said with some records is said with the same records in another list
-says-as : (rs qs : List Record) (p : Plan) → SameRecords rs qs → Says rs p → Says qs p
+says-as : (rs qs : List Record) (p : Plan) → SameRecords rs qs → SaysSoFar rs p → SaysSoFar qs p
 says-as rs qs p same says =
     record {
-      counts = λ a b c. through (says .counts a b c) (same _);
+      counts = λ a b c h. through (says .counts a b c h) (same _);
       capacities = λ r v h. through (says .capacities r v h) (same _);
       lengths = λ t v h. through (says .lengths t v h) (same _);
       demands = λ t k r v h. through (says .demands t k r v h) (same _);
-      bounds = λ w v within. through (says .bounds w v within) (same _);
+      bounds = λ w v h. through (says .bounds w v h) (same _);
       weights = λ w t k v h. through (says .weights w t k v h) (same _);
       ranks = λ r v h. through (says .ranks r v h) (same _);
     }
@@ -192,19 +158,7 @@ module _ (text : List ℕ) (zero-answered : textNumber (reading text .answer) �
   accepted-says = let w = accepted-whole text zero-answered in rw (w .handed) (records-say _ (w .kept) (w .complete))
 
   pub accepted-sized : Sized (reading text .plan)
-  accepted-sized =
-      let w = accepted-whole text zero-answered in
-      let sizes = w .kept .sizes in
-      rw (w .handed)
-      (record {
-        capacity = sizes .capacity;
-        rank = sizes .rank;
-        bound = sizes .bound;
-        lengths = sizes .lengths;
-        stages = sizes .stages;
-        demand = sizes .demand;
-        weight = sizes .weight;
-      })
+  accepted-sized = let w = accepted-whole text zero-answered in rw (w .handed) (records-sized _ (w .kept))
 
 -- two accepted texts with the same records have the same plan: the order within a section, comments, empty lines and leading
 -- zeros do not matter
@@ -212,4 +166,4 @@ pub same-records-same-plan : (text other : List ℕ) → textNumber (reading tex
     → SameRecords (recordsOf (linesOf text)) (recordsOf (linesOf other)) → reading text .plan ≡ reading other .plan
 same-records-same-plan text other taken answered same =
     says-whole (recordsOf (linesOf other)) _ _ (accepted-sized text taken) (accepted-sized other answered) (accepted-sound text taken)
-    (accepted-sound other answered) (says-as _ _ _ same (accepted-says text taken)) (accepted-says other answered)
+    (accepted-sound other answered) (says-as _ _ _ same (accepted-says text taken .so-far)) (accepted-says other answered .so-far)

@@ -1,6 +1,6 @@
--- What an accepted text says of its plan, with no reader in sight: the plan holds a value exactly when the text has the record
--- with that key and that value. So where there is no such record it holds 0, and neither the order within a section nor
--- comments, empty lines or leading zeros matter.
+-- What records say of a plan, with no reader in sight: the plan holds a value exactly when there is the record with that key and
+-- that value. So where there is no such record it holds 0, and neither the order within a section nor comments, empty lines or
+-- leading zeros matter.
 use Prim.Native.Nat.{ℕ, _≤_}
 use mathlib.Core.List.{List}
 use mathlib.Core.Logic.{_↔_}
@@ -39,14 +39,20 @@ A row kind stage weight = line 6 row kind stage weight
 abbrev pub K : ℕ → ℕ → Record
 K resource rank = line 7 resource rank 0 0
 
-pub record Says (rs : List Record) (p : Plan) : Type 0 where
-  pub counts : (a b c : ℕ) → ((p .resources ≡ a) × (p .types ≡ b) × (p .rows ≡ c)) ↔ Has rs (C a b c)
+-- what records say of the plan so far: a value of 1 or more is held exactly when its record is there, and what is not there yet is 0
+pub record SaysSoFar (rs : List Record) (p : Plan) : Type 0 where
+  pub counts : (a b c : ℕ) → 1 ≤ a → ((p .resources ≡ a) × (p .types ≡ b) × (p .rows ≡ c)) ↔ Has rs (C a b c)
   pub capacities : (r v : ℕ) → 1 ≤ v → (capacityOf p r ≡ v) ↔ Has rs (R r v)
   pub lengths : (t v : ℕ) → 1 ≤ v → (lengthOf p t ≡ v) ↔ Has rs (T t v)
   pub demands : (t k r v : ℕ) → 1 ≤ v → (demandOf p r t k ≡ v) ↔ Has rs (S t k r v)
-  pub bounds : (w v : ℕ) → InRange w (p .rows) → (boundOf p w ≡ v) ↔ Has rs (B w v)
+  pub bounds : (w v : ℕ) → 1 ≤ v → (boundOf p w ≡ v) ↔ Has rs (B w v)
   pub weights : (w t k v : ℕ) → 1 ≤ v → (weightOf p w t k ≡ v) ↔ Has rs (A w t k v)
   pub ranks : (r v : ℕ) → 1 ≤ v → (rankOf p r ≡ v) ↔ Has rs (K r v)
+
+-- and of the whole plan: every row has its bound, which may be 0
+pub record Says (rs : List Record) (p : Plan) : Type 0 where
+  pub so-far : SaysSoFar rs p
+  pub bounds : (w : ℕ) → InRange w (p .rows) → Has rs (B w (boundOf p w))
 
 -- as many entries as the arrays of a plan have: of every plan that a program holds
 pub record Sized (p : Plan) : Type 0 where

@@ -1,6 +1,6 @@
 -- What the parts of the reader compute, each under one name. No promise rests on these: the reader's contract is an equation
 -- with `reading`.
-use Prim.Native.Nat.{ℕ, _%_}
+use Prim.Native.Nat.{ℕ, _≤_, _%_}
 use mathlib.Core.Bool.{cond}
 use mathlib.Core.List.{List, [], _∷_}
 use lib.Dec.{eqb}
@@ -8,7 +8,7 @@ use Rattle.model.specs.Questions.{ask, answerOf}
 use Rattle.model.specs.declared.Stage.{Stage}
 use Rattle.model.specs.declared.Plan.{Plan}
 use Rattle.plan_text.specs.Lines.{Line}
-use Rattle.plan_text.specs.Records.{Known, isNumber, numberOn, noRecord, recordIn, inRanges}
+use Rattle.plan_text.specs.Records.{Field, layoutOf, Known, lowestIn, highestIn, isNumber, numberOn, noRecord, recordIn, numbersOf, inRanges}
 use Rattle.plan_text.specs.Written.{Draft, changed}
 use Rattle.plan_text.specs.TextQuestions.{isAccepted}
 use Rattle.plan_text.specs.Reading.{formQuestions, withinTotal}
@@ -25,6 +25,15 @@ noNumber = 100000
 
 abbrev pub numberRead : List ℕ → ℕ
 numberRead bs = cond (isNumber bs) (numberOn 0 bs) noNumber
+
+-- the numbers are in the ranges of the fields, by what a plan so far has
+abbrev pub FieldsInKnown : Known → ℕ → List Field → List ℕ → Type 0
+FieldsInKnown k before [] xs = Unit {0}
+FieldsInKnown k before (f ∷ fs) [] = ⊥
+FieldsInKnown k before (f ∷ fs) (x ∷ xs) = ((lowestIn f ≤ x) × (x ≤ highestIn k before f)) × FieldsInKnown k x fs xs
+
+abbrev pub InKnown : Known → Record → Type 0
+InKnown k r = FieldsInKnown k 0 (layoutOf (r .section)) (numbersOf r)
 
 -- questions 2 to 4 of a line
 abbrev pub formAnswer : ℕ → Line → TextAnswer

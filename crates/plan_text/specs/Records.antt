@@ -85,13 +85,7 @@ highestIn k before row = k .rows
 highestIn k before stage = at (k .lengths) before
 highestIn k before units = at (k .capacity) before
 
--- the numbers are in the ranges of the fields
-abbrev pub InFields : Known → ℕ → List Field → List ℕ → Type 0
-InFields k before [] xs = Unit {0}
-InFields k before (f ∷ fs) [] = ⊥
-InFields k before (f ∷ fs) (x ∷ xs) = ((lowestIn f ≤ x) × (x ≤ highestIn k before f)) × InFields k x fs xs
-
--- its test
+-- is a number in the range of a field
 abbrev pub fitsField : Known → ℕ → Field → ℕ → Bool
 fitsField k before f x = leb (lowestIn f) x && leb x (highestIn k before f)
 
@@ -142,10 +136,7 @@ recordIn bytes =
 abbrev pub numbersOf : Record → List ℕ
 numbersOf r = r .first ∷ r .second ∷ r .third ∷ r .fourth ∷ []
 
-abbrev pub InRanges : Known → Record → Type 0
-InRanges k r = InFields k 0 (layoutOf (r .section)) (numbersOf r)
-
--- the same, computed
+-- are the numbers in the ranges of the fields
 abbrev pub fitsFields : Known → ℕ → List Field → List ℕ → Bool
 fitsFields k before [] xs = true
 fitsFields k before (f ∷ fs) [] = false

@@ -9,12 +9,13 @@ use lib.Dec.{eqb}
 use lib.ListN.{length, take, drop}
 use Rattle.model.specs.Limits.{maxAllStages}
 use Rattle.model.specs.Numbers.{InRange, Each}
-use Rattle.model.specs.Questions.{Condition, asks}
-use Rattle.model.specs.Plan.{emptyPlan, allStages, IsStage}
-use Rattle.model.specs.declared.Plan.{Plan}
+use Rattle.model.specs.Questions.{Condition, asks, AllHold}
+use Rattle.model.specs.Plan.{emptyPlan}
+use Rattle.model.specs.Soundness.{Sound}
 use Rattle.plan_text.specs.Lines.{Line, linesOf, isSkipped, Plain, parts, letterIn, fieldsIn}
-use Rattle.plan_text.specs.Records.{sections, sectionOf, layoutOf, knownOf, IsNumber, recordIn, InRanges, keyOf, Some}
-use Rattle.plan_text.specs.Written.{planOf}
+use Rattle.plan_text.specs.Records.{sections, sectionOf, Field, number, resource, kind, row, stage, units, layoutOf, IsNumber}
+use Rattle.plan_text.specs.Records.{recordIn, numbersOf, keyOf, Has}
+use Rattle.plan_text.specs.Meaning.{C, R, T, S, B, K, Says, Sized}
 use Rattle.plan_text.specs.declared.Record.{Record}
 use Rattle.plan_text.specs.declared.TextAnswer.{TextAnswer}
 use Rattle.plan_text.specs.declared.TextAnswer.the-variants.{Accepted, TooLong, BadLine, BadLetter, BadFields, OutOfRange, Repeated, Incomplete}
@@ -42,16 +43,18 @@ isAccepted a = eqb (textNumber a) 0
 abbrev pub shownIn : List ℕ → Reading → List ℕ
 shownIn text a = take (a .to - a .from) (drop (a .from) text)
 
--- the reading has this number, this line, this shown part and this plan
-pub record TextSays (text : List ℕ) (n i : ℕ) (part : List ℕ) (p : Plan) (a : Reading) : Type 0 where
+-- the reading has this number and this line, and shows this part of the text, which begins at this place
+pub record TextSays (text : List ℕ) (n i start : ℕ) (part : List ℕ) (a : Reading) : Type 0 where
   pub number : textNumber (a .answer) ≡ n
   pub line : a .line ≡ i
+  pub from : a .from ≡ start
+  pub to : a .to ≡ start + length part
   pub shown : shownIn text a ≡ part
-  pub plan : a .plan ≡ p
 
 -- a refusal yields the empty plan
-abbrev pub Refuses : List ℕ → ℕ → ℕ → List ℕ → Reading → Type 0
-Refuses text number line shown = TextSays text number line shown emptyPlan
+pub record Refuses (text : List ℕ) (n i start : ℕ) (part : List ℕ) (a : Reading) : Type 0 where
+  pub says : TextSays text n i start part a
+  pub plan : a .plan ≡ emptyPlan
 
 -- lines that are no records are skipped
 abbrev pub IsRecord : Line → Type 0
@@ -60,6 +63,11 @@ IsRecord l = isSkipped (l .bytes) ≡ false
 abbrev pub recordsOf : List Line → List Record
 recordsOf [] = []
 recordsOf (l ∷ ls) = cond (isSkipped (l .bytes)) (recordsOf ls) (recordIn (l .bytes) ∷ recordsOf ls)
+
+-- where a line begins: behind the lines before it, each with its LF
+abbrev pub startAfter : List Line → ℕ
+startAfter [] = 0
+startAfter (l ∷ ls) = length (l .bytes) + 1 + startAfter ls
 
 -- 2: the line ends with LF and holds only tabs and bytes 32 to 126
 abbrev pub WellFormed : Line → Type 0
@@ -81,54 +89,96 @@ WellFielded l =
     let ps = parts (l .bytes) in
     (length (fieldsIn ps) ≡ length (layoutOf (sectionOf (letterIn ps)))) × Each IsNumber (fieldsIn ps)
 
+-- the numbers that a resource, a type and a row of the plan have, by its C, those of a type's stages, by its T, and the units that can
+-- be demanded of a resource, by its R. A type without its T has no stage yet, and a resource without its R capacity 0
+abbrev pub IsResource : List Record → ℕ → Type 0
+IsResource rs i = (a b c : ℕ) × Has rs (C a b c) × InRange i a
+
+abbrev pub IsType : List Record → ℕ → Type 0
+IsType rs t = (a b c : ℕ) × Has rs (C a b c) × InRange t b
+
+abbrev pub IsRow : List Record → ℕ → Type 0
+IsRow rs w = (a b c : ℕ) × Has rs (C a b c) × InRange w c
+
+abbrev pub IsStageOf : List Record → ℕ → ℕ → Type 0
+IsStageOf rs t k = (n : ℕ) × Has rs (T t n) × InRange k n
+
+abbrev pub IsUnitsOf : List Record → ℕ → ℕ → Type 0
+IsUnitsOf rs r v = (n : ℕ) × Has rs (R r n) × InRange v n
+
+-- 5: the numbers are in the ranges of the fields, after the records rs; the range of a field may go by the number before it
+abbrev pub InField : List Record → ℕ → Field → ℕ → Type 0
+InField rs before (number low high) x = (low ≤ x) × (x ≤ high)
+InField rs before resource x = IsResource rs x
+InField rs before kind x = IsType rs x
+InField rs before row x = IsRow rs x
+InField rs before stage x = IsStageOf rs before x
+InField rs before units x = IsUnitsOf rs before x
+
+abbrev pub InFields : List Record → ℕ → List Field → List ℕ → Type 0
+InFields rs before [] xs = Unit {0}
+InFields rs before (f ∷ fs) [] = ⊥
+InFields rs before (f ∷ fs) (x ∷ xs) = InField rs before f x × InFields rs x fs xs
+
+abbrev pub InRanges : List Record → Record → Type 0
+InRanges rs r = InFields rs 0 (layoutOf (r .section)) (numbersOf r)
+
 -- 6: it is the first with its key
 abbrev pub FirstWithKey : List Record → Record → Type 0
 FirstWithKey rs r = Each (λ (q : Record). keyOf q ≢ keyOf r) rs
 
--- 5 of all types together: at most 128 stages
-abbrev pub WithinTotal : List Record → Record → Type 0
-WithinTotal rs r = allStages (planOf (rs ++ r ∷ [])) ≤ maxAllStages
+-- 5 of all types together: the stages that their records T say are at most 128
+abbrev pub stagesIn : List Record → ℕ
+stagesIn [] = 0
+stagesIn (r ∷ rs) = cond (eqb (r .section) 3) (r .second) 0 + stagesIn rs
 
--- the questions of line n, after the records rs
-abbrev pub lineConditions : List ℕ → List Record → ℕ → Line → List (Condition Reading)
-lineConditions text rs n l =
+abbrev pub WithinTotal : List Record → Record → Type 0
+WithinTotal rs r = stagesIn (r ∷ rs) ≤ maxAllStages
+
+-- the questions of line n, which begins at this place, after the records rs
+abbrev pub lineConditions : List ℕ → List Record → ℕ → ℕ → Line → List (Condition Reading)
+lineConditions text rs n from l =
     let r = recordIn (l .bytes) in
-    let refuses : ℕ → Reading → Type 0 = λ number. Refuses text number n (l .bytes) in
+    let refuses : ℕ → Reading → Type 0 = λ number. Refuses text number n from (l .bytes) in
     asks (WellFormed l) (refuses 2)
     ∷ asks (IsRecord l → Follows (lastSection rs) (sectionOf (letterIn (parts (l .bytes))))) (refuses 3)
     ∷ asks (IsRecord l → WellFielded l) (refuses 4)
-    ∷ asks (IsRecord l → InRanges (knownOf (planOf rs)) r) (refuses 5)
+    ∷ asks (IsRecord l → InRanges rs r) (refuses 5)
     ∷ asks (IsRecord l → FirstWithKey rs r) (refuses 6)
     ∷ asks (IsRecord l → WithinTotal rs r) (refuses 5)
     ∷ []
 
--- the list has a record of the section; one with this first number; one with these first two
-abbrev pub HasSection : List Record → ℕ → Type 0
-HasSection rs section = Some (λ (q : Record). q .section ≡ section) rs
+-- of the lines after those that stand before them
+abbrev pub linesConditions : List ℕ → List Line → List Line → List (Condition Reading)
+linesConditions text before [] = []
+linesConditions text before (l ∷ ls) =
+    lineConditions text (recordsOf before) (length before + 1) (startAfter before) l ++ linesConditions text (before ++ l ∷ []) ls
 
-abbrev pub HasOne : List Record → ℕ → ℕ → Type 0
-HasOne rs section i = Some (λ (q : Record). (q .section ≡ section) × (q .first ≡ i)) rs
-
-abbrev pub HasTwo : List Record → ℕ → ℕ → ℕ → Type 0
-HasTwo rs section i j = Some (λ (q : Record). (q .section ≡ section) × (q .first ≡ i) × (q .second ≡ j)) rs
+-- the lines are taken: every question of each is met
+abbrev pub LinesTaken : List ℕ → List Line → Type 0
+LinesTaken text ls = AllHold (linesConditions text [] ls)
 
 -- 7: there is a C, an R for every resource, a T for every type, some S for every stage, a B for every row, and K for all or none
 pub record Complete (rs : List Record) : Type 0 where
-  pub counts : HasSection rs 1
-  pub capacities : (i : ℕ) → InRange i (planOf rs .resources) → HasOne rs 2 i
-  pub lengths : (t : ℕ) → InRange t (planOf rs .types) → HasOne rs 3 t
-  pub demands : (t k : ℕ) → IsStage (planOf rs) t k → HasTwo rs 4 t k
-  pub bounds : (w : ℕ) → InRange w (planOf rs .rows) → HasOne rs 5 w
-  pub ranks : ((i : ℕ) → InRange i (planOf rs .resources) → HasOne rs 7 i) ⊎ ((i : ℕ) → InRange i (planOf rs .resources) → ¬ HasOne rs 7 i)
+  pub counts : (a b c : ℕ) × Has rs (C a b c)
+  pub capacities : (i : ℕ) → IsResource rs i → (v : ℕ) × Has rs (R i v)
+  pub lengths : (t : ℕ) → IsType rs t → (n : ℕ) × Has rs (T t n)
+  pub demands : (t k : ℕ) → IsStageOf rs t k → (r v : ℕ) × Has rs (S t k r v)
+  pub bounds : (w : ℕ) → IsRow rs w → (v : ℕ) × Has rs (B w v)
+  pub ranks : ((i : ℕ) → IsResource rs i → (v : ℕ) × Has rs (K i v)) ⊎ ((i v : ℕ) → ¬ Has rs (K i v))
 
--- the questions of the lines from number n + 1 on, after the records rs, and then question 7
-abbrev pub conditionsFrom : List ℕ → List Record → ℕ → List Line → List (Condition Reading)
-conditionsFrom text rs n [] = asks (Complete rs) (Refuses text 7 (n + 1) []) ∷ []
-conditionsFrom text rs n (l ∷ ls) = lineConditions text rs (n + 1) l ++ conditionsFrom text (rs ++ recordsOf (l ∷ [])) (n + 1) ls
+-- asked after the last of the lines
+abbrev pub lastConditions : List ℕ → List Line → List (Condition Reading)
+lastConditions text lines = asks (Complete (recordsOf lines)) (Refuses text 7 (length lines + 1) 0 []) ∷ []
 
+-- the questions of a text: 1, those of its lines, and 7
 abbrev pub textConditions : List ℕ → List (Condition Reading)
-textConditions text = asks (length text ≤ maxText) (Refuses text 1 0 []) ∷ conditionsFrom text [] 0 (linesOf text)
+textConditions text =
+    asks (length text ≤ maxText) (Refuses text 1 0 0 []) ∷ (linesConditions text [] (linesOf text) ++ lastConditions text (linesOf text))
 
--- an accepted text: its plan is the one that its records write
-abbrev pub Accepts : List ℕ → Reading → Type 0
-Accepts text = TextSays text 0 0 [] (planOf (recordsOf (linesOf text)))
+-- an accepted text: its plan is sound and is what its records say, with as many entries as a plan has
+pub record Accepts (text : List ℕ) (a : Reading) : Type 0 where
+  pub says : TextSays text 0 0 0 [] a
+  pub plan : Says (recordsOf (linesOf text)) (a .plan)
+  pub sound : Sound (a .plan)
+  pub sized : Sized (a .plan)

@@ -19,7 +19,7 @@ use Rattle.moves_text.specs.Output.{output}
 use Rattle.plan_spelling.specs.Spelling.{spelling}
 use Rattle.plan_spelling.specs.Writing.{writing, spaceAfter}
 use Rattle.plan_spelling.specs.Respelled.{respelledOutput}
-use Rattle.worked.specs.Texts.{capacityText, largeCapacityText, stagesText, moreStagesText, crossingText, shuffledText, oneStageText, wholeInput, wholeOutput, pullInput, pullOutput, planNumbers}
+use Rattle.worked.specs.Texts.{capacityText, largeCapacityText, stagesText, moreStagesText, repeatedText, unfinishedText, crossingText, shuffledText, oneStageText, wholeInput, wholeOutput, pullInput, pullOutput, planNumbers}
 use Rattle.worked.specs.Plans.{crossingWith, crossingPlan, equation40, withoutRows, oneStation, oneStage, jobsPerStage}
 use Rattle.worked.specs.Runs.{Row, result, rows}
 
@@ -27,5 +27,5 @@ pub every-row-holds : map (λ (r : Row). result (r .asked)) rows ≡ map (λ (r 
 unfolding allStages stageOf demandOf weightOf overStages exceeded worstRow isStage fits agreeing soundCounts soundCapacities soundRanks soundLengths
     soundBounds soundStage sound rankedUpTo upstreamOf oneUnit faultyStage faultyType upstreamRow faultyRow faultyBound check listOf agrees
     answer listAfter entered drainFrom listDrain emptyPlan recordIn inRanges emptyDraft indexIn written heldIn isComplete reading decimal planLength eventIn output spelling writing spaceAfter respelledOutput capacityText largeCapacityText stagesText
-    moreStagesText crossingText shuffledText oneStageText wholeInput wholeOutput pullInput pullOutput planNumbers crossingWith crossingPlan equation40 withoutRows oneStation oneStage jobsPerStage result rows
+    moreStagesText repeatedText unfinishedText crossingText shuffledText oneStageText wholeInput wholeOutput pullInput pullOutput planNumbers crossingWith crossingPlan equation40 withoutRows oneStation oneStage jobsPerStage result rows
 every-row-holds = refl

@@ -1,5 +1,5 @@
 -- Document 01's starred runs, as rows of one table: what is asked, and the numbers that the paper gives for it. With them the
--- crossing plan's text, the whole run, as events and from bytes to bytes, a number used again after its unload, both sides of
+-- crossing plan's text, where the part that a refusal shows stands, the whole run, as events and from bytes to bytes, a number used again after its unload, both sides of
 -- the largest number, the pulls of change request S-1, with what the ledger holds before and after one, and the row that 19 names
 -- by change request S-2; and by S-3 the crossing plan written and respelled, spaces that fit and one a byte short, zeros, a refused text and an unsound plan.
 use Prim.Native.Nat.{ℕ, zero, suc}
@@ -24,12 +24,13 @@ use Rattle.moves_text.specs.Quoted.{quoted}
 use Rattle.moves_text.specs.Output.{output}
 use Rattle.plan_spelling.specs.Writing.{writeNumber, writing, spaceAfter}
 use Rattle.plan_spelling.specs.Respelled.{respelledOutput}
-use Rattle.worked.specs.Texts.{capacityText, largeCapacityText, stagesText, moreStagesText, crossingText, shuffledText, oneStageText, wholeInput, wholeOutput, pullInput, pullOutput, planNumbers}
+use Rattle.worked.specs.Texts.{capacityText, largeCapacityText, stagesText, moreStagesText, repeatedText, unfinishedText, crossingText, shuffledText, oneStageText, wholeInput, wholeOutput, pullInput, pullOutput, planNumbers}
 use Rattle.worked.specs.Plans.{crossingWith, crossingPlan, equation40, withoutRows, oneStation, oneStage, jobsPerStage}
 
 -- what is asked
 pub data Run : Type 0 where
   read : List ℕ → Run
+  shown : List ℕ → Run
   planned : List ℕ → Run
   checked : Plan → Run
   weighed : Plan → List Job → Run
@@ -57,7 +58,7 @@ lines p t (e ∷ es) =
     let next = listAfter p t e in
     a .0 ∷ a .1 ∷ next .count ∷ lines p next es
 
--- the numbers that the definitions give: of a text its answer and line, or all numbers of its plan; of a check its answer and
+-- the numbers that the definitions give: of a text its answer and line, with them where the part that is shown begins and ends, or all numbers of its plan; of a check its answer and
 -- two places; of jobs against the rows each row's sum, the row exceeded by the most and its excess; of a drain its answer and moves, of an event its
 -- answer and place, both with the stages at which the jobs then stand; of events from the empty table the lines above, or the ledger: the
 -- units taken and given back of each resource, the stages still before its jobs, and the events admitted; of an input of `cellmoves`
@@ -66,6 +67,7 @@ lines p t (e ∷ es) =
 unfoldable pub result : Run → List ℕ
 unfolding upTo stagesOf lines
 result (read text) = let r = reading text in textNumber (r .answer) ∷ r .line ∷ []
+result (shown text) = let r = reading text in textNumber (r .answer) ∷ r .line ∷ r .from ∷ r .to ∷ []
 result (planned text) = planNumbers (reading text .plan)
 result (checked p) = let c = checkNumbers (check p) in c .0 ∷ c .1 ∷ c .2 ∷ []
 result (weighed p js) = upTo (p .rows) (λ w. rowSum p w js) ++ worstRow p js .0 ∷ worstRow p js .1 ∷ []
@@ -119,6 +121,8 @@ rows =
     ∷ row (read stagesText) (7 ∷ 7 ∷ [])
     ∷ row (read moreStagesText) (5 ∷ 7 ∷ [])
     ∷ row (read crossingText) (0 ∷ 0 ∷ [])
+    ∷ row (shown repeatedText) (6 ∷ 3 ∷ 14 ∷ 19 ∷ [])
+    ∷ row (shown unfinishedText) (7 ∷ 5 ∷ 0 ∷ 0 ∷ [])
     ∷ row (planned crossingText) (planNumbers crossingPlan)
     ∷ row (checked crossingPlan) (0 ∷ 0 ∷ 0 ∷ [])
     ∷ row (checked (crossingWith 2 0)) (25 ∷ 2 ∷ 0 ∷ [])

@@ -20,6 +20,14 @@ unfoldable pub moreStagesText : List ℕ
 unfolding stagesText
 moreStagesText = stagesText ++ quoted "T\t5\t1\n"
 
+-- a line that stands there twice: the shown part is the second of them
+unfoldable pub repeatedText : List ℕ
+repeatedText = quoted "C\t1\t1\t0\nR\t1\t1\nR\t1\t1\n"
+
+-- two types, of which the second has no T yet when a unit is demanded
+unfoldable pub unfinishedText : List ℕ
+unfinishedText = quoted "C\t1\t2\t0\nR\t1\t1\nT\t1\t1\nS\t1\t1\t1\t1\n"
+
 -- the crossing plan's text, section by section
 unfoldable pub crossingText : List ℕ
 crossingText =
