@@ -1,5 +1,7 @@
--- Values that the bytes of a cell can hold: as many entries as there is room for, and each number in its bytes. The plan of every text
--- fits (`read-fits`), and every list that agrees with a sound plan (`agreeing-fits`); a count above 255 does not.
+-- Values that are read back from a cell as they were written: as many entries as there is room for, and what takes more than one byte, a bound
+-- and the numbers of a job, within its bytes. Of a plan's entries of one byte nothing is asked: they are laid down as they are, and a program's
+-- are bytes by their type. The plan of every text fits (`read-fits`), and every list that agrees with a sound plan (`agreeing-fits`); a list that
+-- counts more than 255 jobs does not.
 use Prim.Native.Nat.{ℕ, _<_}
 use mathlib.Core.Path.{_≡_}
 use lib.ListN.{length}

@@ -281,7 +281,8 @@ pub agreement-first-failure : (p : Plan) (t : JobList) → FirstFailure (Says 0 
 unfolding agreement
 agreement-first-failure p t = first-failure isAdmitted Admitted (Says 0 0) refl (first-answers p t)
 
--- every answer, of any plan, table and event, names the first question that fails, with the lowest resource or row
+-- every answer, of any plan, table and event, names the first question that fails, with the place that its refusal words: of 18 the lowest
+-- resource exceeded, of 19 the row exceeded by the most
 pub answer-first-failure : (p : Plan) (t : JobList) (e : Event) → FirstFailure (Says 0 0) (eventConditions p t e) (answer p t e)
 unfolding answer
 answer-first-failure p t e = first-failure isAdmitted Admitted (Says 0 0) refl (event-answers p t e)

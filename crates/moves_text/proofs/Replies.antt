@@ -3,9 +3,9 @@
 use Prim.Native.Nat.{ℕ, _+_}
 use native.Mathlib.Omega.{arith}
 use mathlib.Core.Bool.{false, cond}
-use mathlib.Core.List.{List, [], _∷_, _++_, map, append-assoc}
+use mathlib.Core.List.{List, [], _∷_, _++_, map}
 use mathlib.Core.Option.{Option, none, some}
-use mathlib.Core.Path.{_≡_, refl, sym, ap, _∙_}
+use mathlib.Core.Path.{_≡_, refl, sym, ap}
 use lib.Dec.{eqb}
 use lib.ListN.{length}
 use Rattle.model.specs.declared.Plan.{Plan}
@@ -18,8 +18,8 @@ use Rattle.events.specs.declared.Answer.the-variants.{Admitted, UnsoundPlan, Di
 use Rattle.events.specs.declared.Answer.the-variants.{UnknownType, Full, WrongStage, OverCapacity, RowBroken}
 use Rattle.emptying.specs.Run.{listAfterAll, answers, admittedCount}
 use Rattle.moves_text.specs.EventLines.{countedIn, eventsIn}
-use Rattle.moves_text.specs.OutputLines.{eventLine, listAfterLine}
-use Rattle.moves_text.specs.Output.{Reply, replyTo, repliesTo, printedFrom}
+use Rattle.moves_text.specs.OutputLines.{listAfterLine}
+use Rattle.moves_text.specs.Output.{Reply, replyTo, repliesTo}
 use Rattle.moves_text.specs.PrintedRule.{said, zeros, lastActive}
 use Rattle.plan_text.specs.Reading.{reading}
 use Rattle.moves_text.specs.Division.{planPart, eventPart}

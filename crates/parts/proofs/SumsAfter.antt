@@ -11,14 +11,13 @@ use lib.Dec.{leb}
 use lib.ListN.{replicate}
 use borrow.Author.Tests.{le-leb}
 use Rattle.model.specs.Limits.{maxResources, maxRows}
-use Rattle.model.specs.Numbers.{InRange, at, lowest, greatest, Each, Split}
+use Rattle.model.specs.Numbers.{InRange, at, lowest, greatest, Split}
 use Rattle.model.specs.Plan.{noStage, stageOf, demandOf, weightOf}
-use Rattle.model.specs.Jobs.{overJobs, RowTest, exceeded, worstRow, broken, advancedJob, advancedAt, AtStage}
+use Rattle.model.specs.Jobs.{overJobs, RowTest, exceeded, worstRow, broken, advancedJob, advancedAt}
 use Rattle.model.specs.Soundness.{Sound}
 use Rattle.model.specs.declared.Plan.{Plan}
 use Rattle.model.specs.declared.Stage.{Stage}
 use Rattle.model.specs.declared.Job.{Job}
-use Rattle.model.proofs.Decide.{_and_}
 use Rattle.model.proofs.Flat.{stage-cases}
 use Rattle.model.proofs.Jobs.{row-test}
 use Rattle.model.proofs.Lists.{zeros-at, every-each}

@@ -2,7 +2,7 @@
 -- the plan.
 use Prim.Native.Nat.{ℕ, zero, suc, _≤_}
 use native.Mathlib.Omega.{arith}
-use mathlib.Core.List.{List, [], _∷_}
+use mathlib.Core.List.{List}
 use mathlib.Core.Logic.{_⊎_, inl, ⊎-elim, _↔_}
 use mathlib.Core.Path.{_≡_, refl, sym, ap, subst, _∙_}
 use borrow.Author.Tests.{ne-eqb}
@@ -12,7 +12,7 @@ use Rattle.model.specs.Plan.{noStage, boundOf, lengthOf, IsStage, stageOf, dema
 use Rattle.model.specs.Soundness.{ZeroBeyond, Sound}
 use Rattle.model.specs.declared.Stage.{Stage}
 use Rattle.model.specs.declared.Plan.{Plan}
-use Rattle.model.proofs.Decide.{decided, decides-eq, decides-le}
+use Rattle.model.proofs.Decide.{decided, decides-le}
 use Rattle.model.proofs.Flat.{stage-cases}
 use Rattle.model.proofs.Lists.{zeros-at}
 use Rattle.plan_text.specs.Records.{sections, Has}

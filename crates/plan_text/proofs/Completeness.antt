@@ -4,15 +4,15 @@ use Prim.Native.Nat.{ℕ, zero, suc, _≤_, _<_}
 use native.Mathlib.Omega.{arith}
 use mathlib.Core.List.{List}
 use mathlib.Core.Logic.{_⊎_, inl, inr, ⊎-elim, _↔_}
-use mathlib.Core.Path.{_≡_, refl, ap, subst, _∙_}
+use mathlib.Core.Path.{_≡_, refl, ap}
 use Rattle.model.specs.Limits.{maxStages, maxUnits, maxBound}
-use Rattle.model.specs.Numbers.{InRange, entry, at, Each}
-use Rattle.model.specs.Plan.{noStage, emptyPlan, capacityOf, rankOf, boundOf, lengthOf, IsStage, allStages, stageOf, demandOf, weightOf}
+use Rattle.model.specs.Numbers.{InRange, entry, at}
+use Rattle.model.specs.Plan.{noStage, emptyPlan, capacityOf, rankOf, boundOf, lengthOf, allStages, stageOf, demandOf, weightOf}
 use Rattle.model.specs.Soundness.{EmptyStage, AllRanked, NoneRanked, SoundStage, Sound}
 use Rattle.model.specs.declared.Plan.{Plan}
 use Rattle.model.proofs.Decide.{Decides, decided, holds, decides-iff, decides-eq, decides-le, decides-all, _and_}
 use Rattle.model.proofs.Soundness.{decides-sound, decides-empty-stage}
-use Rattle.plan_text.specs.Records.{Known, knownOf, Has}
+use Rattle.plan_text.specs.Records.{knownOf, Has}
 use Rattle.plan_text.specs.ReaderParts.{InKnown}
 use Rattle.plan_text.specs.Written.{Draft, emptyDraft, draftOf}
 use Rattle.plan_text.specs.TextQuestions.{IsResource, Complete}

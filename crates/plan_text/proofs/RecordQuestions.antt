@@ -47,27 +47,29 @@ module _ (rs : List Record) (d : Draft) (kept : Kept rs d) where
       (λ (ne : ¬ (d .section ≡ 0)). omega (arith, ne))
       (decided (decides-eq (d .section) 0)))
 
-  module _ (x : ℕ) where
-    pub resource-told : InRange x (d .plan .resources) ↔ IsResource rs x
-    unfolding emptyPlan
-    resource-told = (
-      λ h. (_, _, _, counted (λ p. p .resources) refl (omega (arith, h)), h),
-      λ h. let e = kept .one-count _ _ _ (h .3) in (h .4 .0, omega (arith, h .4, e .0)),
-    )
+  -- up to a count, which C says
+  count-told : (of : Plan → ℕ) (in-record : ℕ → ℕ → ℕ → ℕ) → of emptyPlan ≡ 0
+      → of (d .plan) ≡ in-record (d .plan .resources) (d .plan .types) (d .plan .rows)
+      → (x : ℕ) → InRange x (of (d .plan)) ↔ ((a b c : ℕ) × Has rs (C a b c) × InRange x (in-record a b c))
+  count-told of in-record none is x = (
+    λ h. (_, _, _, counted of none (omega (arith, h)), (h .0, omega (arith, h, is))),
+    λ h.
+        let e = kept .one-count (h .0) (h .1) (h .2) (h .3) in
+        let same : in-record (h .0) (h .1) (h .2) ≡ of (d .plan) = (λ i. in-record (e .0 i) (e .1 i) (e .2 i)) ∙ sym is in
+        (h .4 .0, omega (arith, h .4, same)),
+  )
 
-    pub type-told : InRange x (d .plan .types) ↔ IsType rs x
-    unfolding emptyPlan
-    type-told = (
-      λ h. (_, _, _, counted (λ p. p .types) refl (omega (arith, h)), h),
-      λ h. let e = kept .one-count _ _ _ (h .3) in (h .4 .0, omega (arith, h .4, e .1)),
-    )
+  pub resource-told : (x : ℕ) → InRange x (d .plan .resources) ↔ IsResource rs x
+  unfolding emptyPlan
+  resource-told = count-told (λ p. p .resources) (λ a b c. a) refl refl
 
-    pub row-told : InRange x (d .plan .rows) ↔ IsRow rs x
-    unfolding emptyPlan
-    row-told = (
-      λ h. (_, _, _, counted (λ p. p .rows) refl (omega (arith, h)), h),
-      λ h. let e = kept .one-count _ _ _ (h .3) in (h .4 .0, omega (arith, h .4, e .2)),
-    )
+  pub type-told : (x : ℕ) → InRange x (d .plan .types) ↔ IsType rs x
+  unfolding emptyPlan
+  type-told = count-told (λ p. p .types) (λ a b c. b) refl refl
+
+  pub row-told : (x : ℕ) → InRange x (d .plan .rows) ↔ IsRow rs x
+  unfolding emptyPlan
+  row-told = count-told (λ p. p .rows) (λ a b c. c) refl refl
 
   -- up to an entry of a list, which a record says
   entry-told : (n : ℕ) (xs : List ℕ) → ((i v : ℕ) → Entry xs i v ↔ Has rs (line n i v 0 0))

@@ -43,7 +43,7 @@ isAccepted a = eqb (textNumber a) 0
 abbrev pub shownIn : List ℕ → Reading → List ℕ
 shownIn text a = take (a .to - a .from) (drop (a .from) text)
 
--- the reading has this number and this line, and shows this part of the text, which begins at this place
+-- the reading has this number and this line, and shows this part of the text, which begins at this place; an empty part begins at 0
 pub record TextSays (text : List ℕ) (n i start : ℕ) (part : List ℕ) (a : Reading) : Type 0 where
   pub number : textNumber (a .answer) ≡ n
   pub line : a .line ≡ i
