@@ -280,6 +280,24 @@ pub hold-append : {A : Type 0} (cs ds : List (Condition A)) → AllHold cs → A
 hold-append [] ds h k = k
 hold-append (c ∷ cs) ds h k = (h .0, hold-append cs ds (h .1) k)
 
+-- each refusal leaves one answer
+abbrev pub OneEach : {A : Type 0} → List (Condition A) → Type 0
+OneEach [] = Unit {0}
+OneEach {A} (c ∷ cs) = ((a b : A) → c .refusal a → c .refusal b → a ≡ b) × OneEach cs
+
+pub one-append : {A : Type 0} (cs ds : List (Condition A)) → OneEach cs → OneEach ds → OneEach (cs ++ ds)
+one-append [] ds h k = k
+one-append (c ∷ cs) ds h k = (h .0, one-append cs ds (h .1) k)
+
+-- then, if the acceptance does too, only one answer is the first failure's
+pub failure-one : {A : Type 0} (Ok : A → Type 0) → ((a b : A) → Ok a → Ok b → a ≡ b) → (cs : List (Condition A)) → OneEach cs
+    → (a b : A) → FirstFailure Ok cs a → FirstFailure Ok cs b → a ≡ b
+failure-one Ok one [] each a b h k = one a b h k
+failure-one Ok one (c ∷ cs) each a b (inl h) (inl k) = each .0 a b (h .1) (k .1)
+failure-one Ok one (c ∷ cs) each a b (inl h) (inr k) = absurd (h .0 (k .0))
+failure-one Ok one (c ∷ cs) each a b (inr h) (inl k) = absurd (k .0 (h .0))
+failure-one Ok one (c ∷ cs) each a b (inr h) (inr k) = failure-one Ok one cs (each .1) a b (h .1) (k .1)
+
 module _ {A : Type 0} (isOk : A → Bool) (ok : A) where
   -- what is wanted of the acceptance is wanted only where all questions are met
   pub first-failure-then : (Ok : A → Type 0) {qs : List (Question A)} {cs : List (Condition A)} → Answers isOk qs cs → (AllHold cs → Ok ok)

@@ -124,7 +124,7 @@ module _ (p : Plan) where
 
   -- the records of a sound plan say it
   module _ (sound : Sound p) where
-    pub says-counts : (a b c : ℕ) → ((p .resources ≡ a) × (p .types ≡ b) × (p .rows ≡ c)) ↔ Has (planRecords p) (C a b c)
+    says-counts : (a b c : ℕ) → ((p .resources ≡ a) × (p .types ≡ b) × (p .rows ≡ c)) ↔ Has (planRecords p) (C a b c)
     says-counts a b c = (
       λ e. has-own 1 (C a b c) (omega arith, omega arith) (inl (λ i. C (e .0 i) (e .1 i) (e .2 i))),
       λ h. let e = only (C (p .resources) (p .types) (p .rows)) (C a b c) (own-section (C a b c) h .1) in
@@ -146,12 +146,9 @@ module _ (p : Plan) where
             let e = demand-found (S t k r v) (own-section (S t k r v) has .1) .7 in
             (λ i. demandOf p (e i .third) (e i .first) (e i .second)) ∙ sym (λ i. e i .fourth)
 
-    bound-said : (w : ℕ) → InRange w (p .rows) → Has (planRecords p) (B w (boundOf p w))
-    bound-said w within = has-own 5 _ (omega arith, omega arith) (has-bound w within)
-
-    says-bound : (w v : ℕ) → 1 ≤ v → (boundOf p w ≡ v) ↔ Has (planRecords p) (B w v)
-    says-bound w v h = (
-      λ e. subst (λ x. Has (planRecords p) (B w x)) e (bound-said w (entry-within (p .rows) (p .bound) (sound .no-more-bounds) w (omega arith))),
+    says-bound : (w v : ℕ) → (boundOf p w ≡ v → InRange w (p .rows)) → (boundOf p w ≡ v) ↔ Has (planRecords p) (B w v)
+    says-bound w v within = (
+      λ e. subst (λ x. Has (planRecords p) (B w x)) e (has-own 5 _ (omega arith, omega arith) (has-bound w (within e))),
       λ has. let e = bound-found (B w v) (own-section (B w v) has .1) .2 in (λ i. boundOf p (e i .first)) ∙ sym (λ i. e i .second),
     )
 
@@ -196,24 +193,25 @@ module _ (p : Plan) where
                 capacities = says-entry 2 (omega arith, omega arith) (p .capacity) (p .resources) refl (sound .no-more-capacities);
                 lengths = says-entry 3 (omega arith, omega arith) (p .lengths) (p .types) refl (sound .no-more-lengths);
                 demands = says-demand;
-                bounds = says-bound;
+                bounds = λ w v h. says-bound w v (λ e. entry-within (p .rows) (p .bound) (sound .no-more-bounds) w (omega arith));
                 weights = says-weight;
                 ranks = says-entry 7 (omega arith, omega arith) (p .rank) (p .resources) refl (sound .no-more-ranks);
               };
-          bounds = bound-said;
+          counts = says-counts;
+          bounds = λ w v within. says-bound w v (λ e. within);
         }
 
 -- and whatever records say a plan have those of its spelling
-pub said-has : (p : Plan) (rs : List Record) → Sound p → Says rs p → (x : Record) → Has (planRecords p) x → Has rs x
-said-has p rs sound whole x h =
+pub said-has : (p : Plan) (rs : List Record) → Says rs p → (x : Record) → Has (planRecords p) x → Has rs x
+said-has p rs whole x h =
     let own = own-section p x h in
     let says = whole .so-far in
     one-of-seven (λ n. Has (sectionRecords p n) x → Has rs x)
-    (λ k. subst (Has rs) (sym (only _ x k)) (says .counts _ _ _ (sound .resources .0) .0 (refl, refl, refl)))
+    (λ k. subst (Has rs) (sym (only _ x k)) (whole .counts _ _ _ .0 (refl, refl, refl)))
     (λ k. let f = entry-found R (p .resources) (p .capacity) x k in subst (Has rs) (sym (f .3)) (says .capacities (f .0) _ (f .2) .0 refl))
     (λ k. let f = entry-found T (p .types) (p .lengths) x k in subst (Has rs) (sym (f .3)) (says .lengths (f .0) _ (f .2) .0 refl))
     (λ k. let f = demand-found p x k in subst (Has rs) (sym (f .7)) (says .demands (f .0) (f .1) (f .2) _ (f .6) .0 refl))
-    (λ k. let f = bound-found p x k in subst (Has rs) (sym (f .2)) (whole .bounds (f .0) (f .1)))
+    (λ k. let f = bound-found p x k in subst (Has rs) (sym (f .2)) (whole .bounds (f .0) _ (f .1) .0 refl))
     (λ k. let f = weight-found p x k in subst (Has rs) (sym (f .7)) (says .weights (f .0) (f .1) (f .2) _ (f .6) .0 refl))
     (λ k. let f = entry-found K (p .resources) (p .rank) x k in subst (Has rs) (sym (f .3)) (says .ranks (f .0) _ (f .2) .0 refl))
     (x .section) (own .0) (own .1)

@@ -22,7 +22,6 @@ use Rattle.plan_text.proofs.Split.{joined, split-some, split-joined}
 use Rattle.plan_text.proofs.LineForm.{few-fields, numbers-told, numbers-four, number-below, record-in}
 use Rattle.plan_text.proofs.RecordLists.{has-each}
 use Rattle.plan_text.proofs.FirstFailure.{reading-first-failure}
-use Rattle.plan_text.proofs.AcceptedText.{accepted-sound}
 use Rattle.plan_text.proofs.SamePlan.{accepted-says}
 use Rattle.moves_text.specs.Written.{decimal}
 use Rattle.moves_text.proofs.Decimals.{decimal-short}
@@ -213,6 +212,6 @@ module _ (text : List ℕ) (answered : textNumber (reading text .answer) ≡ 0) 
   unfolding spelling
   never-longer =
       let p = reading text .plan in
-      let within = rising-short (planRecords p) (recordsOf (linesOf text)) (records-rise p) (said-has p (recordsOf (linesOf text)) (accepted-sound text answered) (accepted-says text answered)) in
+      let within = rising-short (planRecords p) (recordsOf (linesOf text)) (records-rise p) (said-has p (recordsOf (linesOf text)) (accepted-says text answered)) in
       let lines = lines-short (splitBy lineEnd text) (accepted-lines text answered) in
       omega (arith, within, lines, ap length (split-joined lineEnd text))

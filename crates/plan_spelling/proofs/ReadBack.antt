@@ -27,7 +27,7 @@ use Rattle.plan_text.proofs.FirstFailure.{reading-first-failure}
 use Rattle.plan_text.proofs.AcceptedText.{accepted-whole}
 use Rattle.plan_text.proofs.SamePlan.{says-whole}
 use Rattle.plan_spelling.specs.Spelling.{planRecords, spelling}
-use Rattle.plan_spelling.proofs.Members.{entry-found, own-section, says-counts, plan-says}
+use Rattle.plan_spelling.proofs.Members.{entry-found, own-section, plan-says}
 use Rattle.plan_spelling.proofs.RecordText.{Spellable, lineOf, section-told, line-formed, line-fielded, record-back, lines-back, records-back}
 use Rattle.plan_spelling.proofs.Taken.{spellable, next}
 
@@ -45,19 +45,19 @@ module _ (p : Plan) (sound : Sound p) where
   ranks-said : ((i : ℕ) → IsResource (planRecords p) i → (v : ℕ) × Has (planRecords p) (K i v)) ⊎ ((i v : ℕ) → ¬ Has (planRecords p) (K i v))
   ranks-said =
       ⊎-map
-      (λ all i is. let ranked = all i (is .4 .0, omega (arith, is .4, says-counts p sound _ _ _ .1 (is .3))) in (rankOf p i, says .ranks i (rankOf p i) (ranked .0) .0 refl))
+      (λ all i is. let ranked = all i (is .4 .0, omega (arith, is .4, plan-says p sound .counts _ _ _ .1 (is .3))) in (rankOf p i, says .ranks i (rankOf p i) (ranked .0) .0 refl))
       (λ none i v has. let f = entry-found K (p .resources) (p .rank) (K i v) (own-section p (K i v) has .1) in omega (arith, none (f .0) (f .1), f .2))
       (sound .ranks)
 
   complete : Complete (planRecords p)
   complete =
       record {
-        counts = (_, _, _, says-counts p sound _ _ _ .0 (refl, refl, refl));
+        counts = (_, _, _, plan-says p sound .counts _ _ _ .0 (refl, refl, refl));
         capacities = λ i is.
-            let within : InRange i (p .resources) = (is .4 .0, omega (arith, is .4, says-counts p sound _ _ _ .1 (is .3))) in
+            let within : InRange i (p .resources) = (is .4 .0, omega (arith, is .4, plan-says p sound .counts _ _ _ .1 (is .3))) in
             (capacityOf p i, says .capacities i (capacityOf p i) (sound .capacities i within .0) .0 refl);
         lengths = λ t is.
-            let within : InRange t (p .types) = (is .4 .0, omega (arith, is .4, says-counts p sound _ _ _ .1 (is .3))) in
+            let within : InRange t (p .types) = (is .4 .0, omega (arith, is .4, plan-says p sound .counts _ _ _ .1 (is .3))) in
             (lengthOf p t, says .lengths t (lengthOf p t) (sound .lengths t within .0) .0 refl);
         demands = λ t k is.
             let f = entry-found T (p .types) (p .lengths) (T t (is .0)) (own-section p (T t (is .0)) (is .1) .1) in
@@ -67,7 +67,9 @@ module _ (p : Plan) (sound : Sound p) where
             let some = sound .stages t k stage .some in
             let v = demandOf p (some .0) t k in
             (some .0, v, says .demands t k (some .0) v (some .2) .0 refl);
-        bounds = λ w is. (boundOf p w, plan-says p sound .bounds w (is .4 .0, omega (arith, is .4, says-counts p sound _ _ _ .1 (is .3))));
+        bounds = λ w is.
+            let within : InRange w (p .rows) = (is .4 .0, omega (arith, is .4, plan-says p sound .counts _ _ _ .1 (is .3))) in
+            (boundOf p w, plan-says p sound .bounds w (boundOf p w) within .0 refl);
         ranks = ranks-said;
       }
 

@@ -193,7 +193,7 @@ module _ (p : Plan) (sound : Sound p) where
     known =
         record {
           counts = λ l.
-              let e = kept .one-count _ _ _ (earlier (C (p .resources) (p .types) (p .rows)) (plan-says p sound .so-far .counts _ _ _ (sound .resources .0) .0 (refl, refl, refl)) l) in
+              let e = kept .one-count _ _ _ (earlier (C (p .resources) (p .types) (p .rows)) (plan-says p sound .counts _ _ _ .0 (refl, refl, refl)) l) in
               (sym (e .0), sym (e .1), sym (e .2));
           capacities = λ l. entry-told 2 _ _ l (kept .capacities) (plan-says p sound .so-far .capacities);
           lengths = λ l. entry-told 3 _ _ l (kept .lengths) (plan-says p sound .so-far .lengths);
@@ -217,7 +217,7 @@ module _ (p : Plan) (sound : Sound p) where
         (λ none.
         ⊎-elim inr
         (λ (ne : ¬ (r .section ≡ 1)).
-        absurd (none _ (earlier (C (p .resources) (p .types) (p .rows)) (plan-says p sound .so-far .counts _ _ _ (sound .resources .0) .0 (refl, refl, refl)) (omega (arith, ne, section)))))
+        absurd (none _ (earlier (C (p .resources) (p .types) (p .rows)) (plan-says p sound .counts _ _ _ .0 (refl, refl, refl)) (omega (arith, ne, section)))))
         (decided (decides-eq (r .section) 1)))
         (last-or-none rs (each-has _ rs (λ q h. own-section p q (mine q h) .0 .0)))
 

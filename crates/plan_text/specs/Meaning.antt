@@ -49,10 +49,11 @@ pub record SaysSoFar (rs : List Record) (p : Plan) : Type 0 where
   pub weights : (w t k v : ℕ) → 1 ≤ v → (weightOf p w t k ≡ v) ↔ Has rs (A w t k v)
   pub ranks : (r v : ℕ) → 1 ≤ v → (rankOf p r ≡ v) ↔ Has rs (K r v)
 
--- and of the whole plan: every row has its bound, which may be 0
+-- and of the whole plan: it has its counts, and every row its bound, which may be 0
 pub record Says (rs : List Record) (p : Plan) : Type 0 where
   pub so-far : SaysSoFar rs p
-  pub bounds : (w : ℕ) → InRange w (p .rows) → Has rs (B w (boundOf p w))
+  pub counts : (a b c : ℕ) → ((p .resources ≡ a) × (p .types ≡ b) × (p .rows ≡ c)) ↔ Has rs (C a b c)
+  pub bounds : (w v : ℕ) → InRange w (p .rows) → (boundOf p w ≡ v) ↔ Has rs (B w v)
 
 -- as many entries as the arrays of a plan have: of every plan that a program holds
 pub record Sized (p : Plan) : Type 0 where
