@@ -56,7 +56,7 @@ layouts =
 abbrev pub layoutOf : ℕ → List Field
 layoutOf section = entry layouts section []
 
--- what ranges are asked of: the counts, the capacities and the stages per type that a plan has so far
+-- what ranges are computed from: the counts, the capacities and the stages per type that a plan has so far
 pub record Known : Type 0 where
   pub resources : ℕ
   pub types : ℕ
