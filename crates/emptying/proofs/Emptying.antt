@@ -81,54 +81,60 @@ some-move p rule t agrees = (
   λ left. let o = movable-job p t rule agrees left in record { event = moveOf p (o .here .item); move = job-moves p (o .here .item); admitted = o .admitted },
 )
 
--- what else the theorem takes of the rule
+-- a sound plan under which some move is open exactly where a job is left
+module _ (p : Plan) (movable : (t : JobList) → Agrees p t → SomeMove p t ↔ (jobsOf t ≢ [])) (sound : Sound p) (events moves : List Event)
+    (are-moves : Each IsMove moves) where
+  abbrev between : State
+  between = run p start events
+
+  abbrev end : State
+  end = run p between moves
+
+  first : Consistent p between
+  first = run-consistent p sound start events (start-consistent p)
+
+  last : Consistent p end
+  last = run-consistent p sound between moves first
+
+  jobs : jobsOf (end .list) ≡ end .ledger .jobs
+  jobs = jobs-of-ledger p end last
+
+  agreeing : Agreeing p (end .ledger .jobs)
+  agreeing = subst (Agreeing p) jobs (last .agrees .jobs)
+
+  count : admittedCount (answers p (between .list) moves) + stagesBefore p (end .ledger .jobs) ≡ stagesBefore p (between .ledger .jobs)
+  count =
+      omega
+      (arith, run-count p (between .list) moves are-moves, ap (stagesBefore p) jobs, ap (stagesBefore p) (jobs-of-ledger p between first))
+
+  abbrev Emptied : Type 0
+  Emptied = (end .list ≡ emptyList) × (admittedCount (answers p (between .list) moves) ≡ stagesBefore p (between .ledger .jobs))
+
+  emptied : (¬ SomeMove p (end .list)) → Emptied
+  emptied closed = go (end .ledger .jobs) refl
+    where
+      go : (js : List Job) → end .ledger .jobs ≡ js → Emptied
+      go [] e = (last .same ∙ ap listOf e, omega (arith, count, ap (stagesBefore p) e))
+      go (j ∷ js) e = absurd (closed (movable (end .list) (last .agrees) .1 (λ n. false≢true (ap isEmpty (sym e ∙ sym jobs ∙ n)))))
+
+  emptied-where : EmptyingRule p between end (admittedCount (answers p (between .list) moves))
+  emptied-where =
+      record {
+        same = last .same;
+        few = omega (arith, ap length jobs, length-take (end .list .count) (end .list .jobs), last .agrees .few);
+        units = λ r h. last .balance r;
+        capacity = λ r h. agreeing .capacities r h;
+        movable = subst (λ (js : List Job). SomeMove p (end .list) ↔ (js ≢ [])) jobs (movable (end .list) (last .agrees));
+        count = count;
+        emptied = emptied;
+      }
+
 rule-sound : (p : Plan) → UpstreamRule p → Sound p
 rule-sound p rule = rule .sound
 
+-- so the rule is used for the moves, and beside them for soundness alone
 pub emptying-theorem : EmptyingTheorem
-emptying-theorem p rule events moves are-moves =
-    record {
-      same = last .same;
-      few = omega (arith, ap length jobs, length-take (end .list .count) (end .list .jobs), last .agrees .few);
-      units = λ r h. last .balance r;
-      capacity = λ r h. agreeing .capacities r h;
-      movable = subst (λ (js : List Job). SomeMove p (end .list) ↔ (js ≢ [])) jobs (some-move p rule (end .list) (last .agrees));
-      count = count;
-      emptied = emptied;
-    }
-  where
-    between : State
-    between = run p start events
-
-    end : State
-    end = run p between moves
-
-    first : Consistent p between
-    first = run-consistent p (rule-sound p rule) start events (start-consistent p)
-
-    last : Consistent p end
-    last = run-consistent p (rule-sound p rule) between moves first
-
-    jobs : jobsOf (end .list) ≡ end .ledger .jobs
-    jobs = jobs-of-ledger p end last
-
-    agreeing : Agreeing p (end .ledger .jobs)
-    agreeing = subst (Agreeing p) jobs (last .agrees .jobs)
-
-    count : admittedCount (answers p (between .list) moves) + stagesBefore p (end .ledger .jobs) ≡ stagesBefore p (between .ledger .jobs)
-    count =
-        omega
-        (arith, run-count p (between .list) moves are-moves, ap (stagesBefore p) jobs, ap (stagesBefore p) (jobs-of-ledger p between first))
-
-    Emptied : Type 0
-    Emptied = (end .list ≡ emptyList) × (admittedCount (answers p (between .list) moves) ≡ stagesBefore p (between .ledger .jobs))
-
-    emptied : (¬ SomeMove p (end .list)) → Emptied
-    emptied closed = go (end .ledger .jobs) refl
-      where
-        go : (js : List Job) → end .ledger .jobs ≡ js → Emptied
-        go [] e = (last .same ∙ ap listOf e, omega (arith, count, ap (stagesBefore p) e))
-        go (j ∷ js) e = absurd (closed (some-move p rule (end .list) (last .agrees) .1 (λ n. false≢true (ap isEmpty (sym e ∙ sym jobs ∙ n)))))
+emptying-theorem p rule = emptied-where p (some-move p rule) (rule-sound p rule)
 
 -- the same for whoever has the check's answer
 pub emptying-passed : (p : Plan) → check p ≡ Meets → (events moves : List Event) → Each IsMove moves

@@ -5,7 +5,7 @@ use native.Mathlib.Omega.{arith}
 use mathlib.Core.Bool.{Bool, true, false, not, cond}
 use mathlib.Core.List.{List, [], _∷_}
 use mathlib.Core.Logic.{_≢_, _⊎_, inl, inr}
-use mathlib.Core.Path.{_≡_, ap, subst⁻¹, _∙_}
+use mathlib.Core.Path.{_≡_, refl, ap, subst⁻¹, _∙_}
 use Rattle.model.specs.Numbers.{Each}
 use Rattle.model.specs.Questions.{Question, answerOf}
 use Rattle.model.specs.Jobs.{Active, removed}
@@ -13,9 +13,10 @@ use Rattle.model.specs.declared.Plan.{Plan}
 use Rattle.model.specs.declared.Job.{Job}
 use Rattle.model.proofs.Decide.{fails}
 use Rattle.model.proofs.Jobs.{decides-active, removed-inactive}
-use Rattle.events.specs.JobList.{jobsOf, Agrees}
-use Rattle.events.specs.Events.{answerNumbers, eventQuestions, answer, listAfter, Reusable}
+use Rattle.events.specs.JobList.{jobsOf}
+use Rattle.events.specs.Events.{answerNumbers, eventQuestions, jobsAfter, answer, listAfter, Reusable}
 use Rattle.events.specs.declared.JobList.{JobList}
+use Rattle.events.specs.declared.Event.{Event}
 use Rattle.events.specs.declared.Event.the-variants.{Load, Unload, Pull}
 use Rattle.events.specs.declared.Answer.{Answer}
 use Rattle.events.specs.declared.Answer.the-variants.{Admitted}
@@ -55,17 +56,16 @@ inactive-reusable p t n none =
     }
 
 module _ (p : Plan) (t : JobList) (n : ℕ) where
-  -- the list without the job of the number
-  left-reusable : (u : JobList) → Agrees p t → jobsOf u ≡ removed n (jobsOf t) → Reusable p u n
-  left-reusable u agrees left =
-      inactive-reusable p u n (subst⁻¹ (λ (js : List Job). ¬ Active n js) left (removed-inactive n (jobsOf t) (agrees .jobs .distinct)))
+  -- an event that leads to the jobs without that of the number
+  removal-frees : (e : Event) → jobsAfter p (jobsOf t) e ≡ removed n (jobsOf t) → answer p t e ≡ Admitted → Reusable p (listAfter p t e) n
+  removal-frees e removes h =
+      let agrees = admitted-holds p t e h .1 .0 in
+      let left = ap jobsOf (list-admitted p t e h) ∙ jobs-of-list (jobsAfter p (jobsOf t) e) ∙ removes in
+      inactive-reusable p (listAfter p t e) n
+      (subst⁻¹ (λ (js : List Job). ¬ Active n js) left (removed-inactive n (jobsOf t) (agrees .jobs .distinct)))
 
   pub unload-frees : answer p t (Unload n) ≡ Admitted → Reusable p (listAfter p t (Unload n)) n
-  unload-frees h =
-      left-reusable (listAfter p t (Unload n)) (admitted-holds p t (Unload n) h .1 .0)
-      (ap jobsOf (list-admitted p t (Unload n) h) ∙ jobs-of-list (removed n (jobsOf t)))
+  unload-frees = removal-frees (Unload n) refl
 
   pub pull-frees : answer p t (Pull n) ≡ Admitted → Reusable p (listAfter p t (Pull n)) n
-  pull-frees h =
-      left-reusable (listAfter p t (Pull n)) (admitted-holds p t (Pull n) h .1 .0)
-      (ap jobsOf (list-admitted p t (Pull n) h) ∙ jobs-of-list (removed n (jobsOf t)))
+  pull-frees = removal-frees (Pull n) refl

@@ -11,7 +11,7 @@ use lib.ListN.{drop}
 use lib.Dec.{leb, ltb, eqb}
 use borrow.Author.Tests.{leb-true, leb-false, eqb-true, eqb-false, eq-eqb, ne-eqb}
 use Rattle.model.specs.Numbers.{InRange, inRange, entry, allTo, someTo, lowest, Lowest, greatest, Greatest, Each, each}
-use Rattle.model.specs.Questions.{Question, Condition, answerOf, AllHold, FirstFailure}
+use Rattle.model.specs.Questions.{Question, Condition, answerOf, EachCondition, AllHold, FirstFailure}
 
 pub data Decides (P : Type 0) : Bool → Type 0 where
   holding : P → Decides P true
@@ -272,25 +272,25 @@ failure-append Ok [] ds a h = h
 failure-append Ok (c ∷ cs) ds a (inl h) = inl h
 failure-append Ok (c ∷ cs) ds a (inr h) = inr (h .0, failure-append Ok cs ds a (h .1))
 
-pub hold-split : {A : Type 0} (cs ds : List (Condition A)) → AllHold (cs ++ ds) → AllHold cs × AllHold ds
-hold-split [] ds h = (tt, h)
-hold-split (c ∷ cs) ds h = let rest = hold-split cs ds (h .1) in ((h .0, rest .0), rest .1)
+-- what holds of each question of two lists together
+module _ {A : Type 0} (P : Condition A → Type 0) where
+  pub conditions-split : (cs ds : List (Condition A)) → EachCondition P (cs ++ ds) → EachCondition P cs × EachCondition P ds
+  conditions-split [] ds h = (tt, h)
+  conditions-split (c ∷ cs) ds h = let rest = conditions-split cs ds (h .1) in ((h .0, rest .0), rest .1)
 
-pub hold-append : {A : Type 0} (cs ds : List (Condition A)) → AllHold cs → AllHold ds → AllHold (cs ++ ds)
-hold-append [] ds h k = k
-hold-append (c ∷ cs) ds h k = (h .0, hold-append cs ds (h .1) k)
+  pub conditions-append : (cs ds : List (Condition A)) → EachCondition P cs → EachCondition P ds → EachCondition P (cs ++ ds)
+  conditions-append [] ds h k = k
+  conditions-append (c ∷ cs) ds h k = (h .0, conditions-append cs ds (h .1) k)
 
--- each refusal leaves one answer
-abbrev pub OneEach : {A : Type 0} → List (Condition A) → Type 0
-OneEach [] = Unit {0}
-OneEach {A} (c ∷ cs) = ((a b : A) → c .refusal a → c .refusal b → a ≡ b) × OneEach cs
+-- the question is met; its refusal leaves one answer
+abbrev pub Holds : {A : Type 0} → Condition A → Type 0
+Holds c = c .holds
 
-pub one-append : {A : Type 0} (cs ds : List (Condition A)) → OneEach cs → OneEach ds → OneEach (cs ++ ds)
-one-append [] ds h k = k
-one-append (c ∷ cs) ds h k = (h .0, one-append cs ds (h .1) k)
+abbrev pub OneRefusal : {A : Type 0} → Condition A → Type 0
+OneRefusal {A} c = (a b : A) → c .refusal a → c .refusal b → a ≡ b
 
--- then, if the acceptance does too, only one answer is the first failure's
-pub failure-one : {A : Type 0} (Ok : A → Type 0) → ((a b : A) → Ok a → Ok b → a ≡ b) → (cs : List (Condition A)) → OneEach cs
+-- where each refusal and the acceptance leave one answer, only one is the first failure's
+pub failure-one : {A : Type 0} (Ok : A → Type 0) → ((a b : A) → Ok a → Ok b → a ≡ b) → (cs : List (Condition A)) → EachCondition OneRefusal cs
     → (a b : A) → FirstFailure Ok cs a → FirstFailure Ok cs b → a ≡ b
 failure-one Ok one [] each a b h k = one a b h k
 failure-one Ok one (c ∷ cs) each a b (inl h) (inl k) = each .0 a b (h .1) (k .1)

@@ -24,10 +24,13 @@ pub record Condition (A : Type 0) : Type 1 where
 abbrev pub asks : {A : Type 0} → Type 0 → (A → Type 0) → Condition A
 asks P says = record { holds = P; refusal = says }
 
--- every question is met
+-- P holds of each question; every question is met
+abbrev pub EachCondition : {A : Type 0} → (Condition A → Type 0) → List (Condition A) → Type 0
+EachCondition P [] = Unit {0}
+EachCondition P (q ∷ qs) = P q × EachCondition P qs
+
 abbrev pub AllHold : {A : Type 0} → List (Condition A) → Type 0
-AllHold [] = Unit {0}
-AllHold (q ∷ qs) = q .holds × AllHold qs
+AllHold {A} qs = EachCondition (λ (q : Condition A). q .holds) qs
 
 -- the answer is that of the first question that fails, and `ok` says what it is where none does
 abbrev pub FirstFailure : {A : Type 0} → (A → Type 0) → List (Condition A) → A → Type 0

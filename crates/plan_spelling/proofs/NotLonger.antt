@@ -9,8 +9,8 @@ use mathlib.Core.Logic.{_≢_, inl, inr}
 use mathlib.Core.Path.{_≡_, refl, sym, ap, subst, _∙_}
 use lib.ListN.{length, take, length-append}
 use Rattle.model.specs.Numbers.{InRange, Each}
-use Rattle.model.specs.Questions.{Condition, AllHold, FirstFailure}
-use Rattle.model.proofs.Decide.{hold-split}
+use Rattle.model.specs.Questions.{Condition, EachCondition, AllHold, FirstFailure}
+use Rattle.model.proofs.Decide.{Holds, conditions-split, conditions-append}
 use Rattle.model.proofs.Lists.{each-map}
 use Rattle.plan_text.specs.Lines.{Line, lineEnd, tab, splitBy, linesIn, linesOf, isSkipped, parts, letterIn, fieldsIn}
 use Rattle.plan_text.specs.Records.{sections, sectionOf, IsNumber, numberOn, fieldsRead, recordIn, keyOf, Has}
@@ -32,18 +32,13 @@ use Rattle.plan_spelling.proofs.Order.{records-rise, not-below}
 use Rattle.plan_spelling.proofs.RecordText.{line-joined}
 
 -- no refusal of a text has number 0
-abbrev Refusing : List (Condition Reading) → Type 0
-Refusing [] = Unit {0}
-Refusing (c ∷ cs) = ((a : Reading) → c .refusal a → textNumber (a .answer) ≢ 0) × Refusing cs
+abbrev Refusing : Condition Reading → Type 0
+Refusing c = (a : Reading) → c .refusal a → textNumber (a .answer) ≢ 0
 
-none-refused : (Ok : Reading → Type 0) (cs : List (Condition Reading)) (a : Reading) → Refusing cs → textNumber (a .answer) ≡ 0 → FirstFailure Ok cs a → AllHold cs
+none-refused : (Ok : Reading → Type 0) (cs : List (Condition Reading)) (a : Reading) → EachCondition Refusing cs → textNumber (a .answer) ≡ 0 → FirstFailure Ok cs a → AllHold cs
 none-refused Ok [] a refusing z h = tt
 none-refused Ok (c ∷ cs) a refusing z (inl h) = absurd (refusing .0 a (h .1) z)
 none-refused Ok (c ∷ cs) a refusing z (inr h) = (h .0, none-refused Ok cs a (refusing .1) z (h .1))
-
-append-refusing : (cs ds : List (Condition Reading)) → Refusing cs → Refusing ds → Refusing (cs ++ ds)
-append-refusing [] ds h k = k
-append-refusing (c ∷ cs) ds h k = (h .0, append-refusing cs ds (h .1) k)
 
 -- what an accepted text's lines are
 record Taken (l : Line) : Type 0 where
@@ -52,7 +47,7 @@ record Taken (l : Line) : Type 0 where
   pub fielded : IsRecord l → WellFielded l
 
 module _ (text : List ℕ) where
-  line-refusing : (rs : List Record) (n from : ℕ) (l : Line) → Refusing (lineConditions text rs n from l)
+  line-refusing : (rs : List Record) (n from : ℕ) (l : Line) → EachCondition Refusing (lineConditions text rs n from l)
   line-refusing rs n from l = (
     λ a s e. omega (arith, s .says .number),
     (
@@ -68,15 +63,15 @@ module _ (text : List ℕ) where
   abbrev asked : List Line → Line → List (Condition Reading)
   asked before l = lineConditions text (recordsOf before) (length before + 1) (startAfter before) l
 
-  refusing-from : (ls before : List Line) → Refusing (linesConditions text before ls)
+  refusing-from : (ls before : List Line) → EachCondition Refusing (linesConditions text before ls)
   refusing-from [] before = tt
   refusing-from (l ∷ ls) before =
-      append-refusing (asked before l) (linesConditions text (before ++ l ∷ []) ls) (line-refusing (recordsOf before) _ _ l) (refusing-from ls (before ++ l ∷ []))
+      conditions-append Refusing (asked before l) (linesConditions text (before ++ l ∷ []) ls) (line-refusing (recordsOf before) _ _ l) (refusing-from ls (before ++ l ∷ []))
 
   taken-from : (ls before : List Line) → AllHold (linesConditions text before ls) → Each Taken ls
   taken-from [] before h = tt
   taken-from (l ∷ ls) before h =
-      let both = hold-split (asked before l) (linesConditions text (before ++ l ∷ []) ls) h in
+      let both = conditions-split Holds (asked before l) (linesConditions text (before ++ l ∷ []) ls) h in
       let line = both .0 in (
         record { ended = line .0 .0; section = λ e. line .1 .0 e .0; fielded = λ e. line .1 .1 .0 e },
         taken-from ls (before ++ l ∷ []) (both .1),
@@ -86,14 +81,14 @@ module _ (text : List ℕ) where
     all-held : AllHold (textConditions text)
     all-held =
         none-refused _ (textConditions text) (reading text)
-        (λ a s e. omega (arith, s .says .number), append-refusing (linesConditions text [] (linesOf text)) (lastConditions text (linesOf text)) (refusing-from (linesOf text) []) (λ a s e. omega (arith, s .says .number), tt)) answered
+        (λ a s e. omega (arith, s .says .number), conditions-append Refusing (linesConditions text [] (linesOf text)) (lastConditions text (linesOf text)) (refusing-from (linesOf text) []) (λ a s e. omega (arith, s .says .number), tt)) answered
         (reading-first-failure text)
 
     pub accepted-short : length text ≤ maxText
     accepted-short = all-held .0
 
     accepted-lines : Each Taken (linesOf text)
-    accepted-lines = taken-from (linesOf text) [] (hold-split (linesConditions text [] (linesOf text)) (lastConditions text (linesOf text)) (all-held .1) .0)
+    accepted-lines = taken-from (linesOf text) [] (conditions-split Holds (linesConditions text [] (linesOf text)) (lastConditions text (linesOf text)) (all-held .1) .0)
 
 -- parts put together are no longer where the first is not and none of the others is
 joined-short : (s : ℕ) (g : List ℕ → List ℕ) (p q : List ℕ) (fs : List (List ℕ)) → length p ≤ length q → Each (λ (f : List ℕ). length (g f) ≤ length f) fs

@@ -11,7 +11,7 @@ use Rattle.model.specs.Questions.{Condition, AllHold, FirstFailure}
 use Rattle.model.specs.Plan.{capacityOf, rankOf, boundOf, lengthOf, IsStage, demandOf}
 use Rattle.model.specs.Soundness.{Sound}
 use Rattle.model.specs.declared.Plan.{Plan}
-use Rattle.model.proofs.Decide.{hold-append}
+use Rattle.model.proofs.Decide.{Holds, conditions-append}
 use Rattle.model.proofs.Lists.{append-each}
 use Rattle.plan_text.specs.Lines.{linesOf}
 use Rattle.plan_text.specs.Records.{Has}
@@ -96,7 +96,7 @@ module _ (p : Plan) (sound : Sound p) where
         let rest = hold-from qs (rs ++ r ∷ []) (whole ∙ sym (append-assoc rs (r ∷ []) qs)) (next p sound rs r qs whole kept .after)
         (append-each Spellable rs (r ∷ []) before (s .0, tt)) (s .1) in
         let lines = map lineOf rs in
-        hold-append (lineConditions text (recordsOf lines) (length lines + 1) (startAfter lines) (lineOf r)) (linesConditions text (lines ++ lineOf r ∷ []) (map lineOf qs))
+        conditions-append Holds (lineConditions text (recordsOf lines) (length lines + 1) (startAfter lines) (lineOf r)) (linesConditions text (lines ++ lineOf r ∷ []) (map lineOf qs))
         (rw (records-back rs before) (line-holds rs r qs (length lines + 1) (startAfter lines) whole kept (s .0)))
         (rw map-append at rest)
 
@@ -113,7 +113,7 @@ module _ (p : Plan) (sound : Sound p) where
     accepts =
         all-met (Accepts (spelling p)) (textConditions (spelling p)) (reading (spelling p)) (
           short,
-          hold-append (linesConditions (spelling p) [] (linesOf (spelling p))) (lastConditions (spelling p) (linesOf (spelling p)))
+          conditions-append Holds (linesConditions (spelling p) [] (linesOf (spelling p))) (lastConditions (spelling p) (linesOf (spelling p)))
               (rw written-lines (hold-from (spelling p) (planRecords p) [] refl nothing-kept tt (spellable p sound))) (rw written-records complete, tt),
         )
         (reading-first-failure (spelling p))

@@ -14,7 +14,7 @@ use Rattle.bytes.specs.Bytes.{slice, indexOf}
 use Rattle.model.specs.Questions.{Condition, AllHold, FirstFailure}
 use Rattle.model.specs.Plan.{noStage}
 use Rattle.model.proofs.Decide.{Decides, holding, decided, passes, decides-iff, decides-le, decides-lt}
-use Rattle.model.proofs.Decide.{Answers, done, asked, choose, failure-append, hold-split, first-failure-then}
+use Rattle.model.proofs.Decide.{Answers, done, asked, choose, failure-append, Holds, conditions-split, first-failure-then}
 use Rattle.plan_text.specs.Lines.{Line, lineEnd, linesOf, isSkipped, parts, letterIn, fieldsIn}
 use Rattle.plan_text.specs.Records.{knownOf, recordIn, noRecord, inRanges, sectionOf, fieldsRead, layoutOf}
 use Rattle.plan_text.specs.Written.{Draft, emptyDraft, indexIn, written, writtenAll, draftOf, planOf, heldIn}
@@ -208,7 +208,7 @@ module _ (text : List ℕ) where
   kept-lines : (ls before : List Line) → KeptLines before → AllHold (linesConditions text before ls) → KeptLines (before ++ ls)
   kept-lines [] before kept hold = rw append-nil kept
   kept-lines (l ∷ ls) before kept hold =
-      let both = hold-split (lineConditions text (recordsOf before) (length before + 1) (startAfter before) l) (linesConditions text (before ++ l ∷ []) ls) hold in
+      let both = conditions-split Holds (lineConditions text (recordsOf before) (length before + 1) (startAfter before) l) (linesConditions text (before ++ l ∷ []) ls) hold in
       subst KeptLines (append-assoc before (l ∷ []) ls) (kept-lines ls (before ++ l ∷ []) (kept-more before l kept (both .0)) (both .1))
 
   -- what the records of lines that are taken say of the plan so far, which questions 5 and 7 are asked of when they are computed

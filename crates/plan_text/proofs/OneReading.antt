@@ -4,8 +4,8 @@ use Prim.Native.Nat.{ℕ, _+_}
 use mathlib.Core.List.{List, [], _∷_, _++_}
 use mathlib.Core.Path.{_≡_, refl, sym, ap, _∙_}
 use lib.ListN.{length, getD}
-use Rattle.model.specs.Questions.{FirstFailure}
-use Rattle.model.proofs.Decide.{OneEach, one-append, failure-one}
+use Rattle.model.specs.Questions.{EachCondition, FirstFailure}
+use Rattle.model.proofs.Decide.{OneRefusal, conditions-append, failure-one}
 use Rattle.plan_text.specs.Lines.{Line, linesOf}
 use Rattle.plan_text.specs.TextQuestions.{textNumber, TextSays, Refuses, recordsOf, startAfter, lineConditions, linesConditions, lastConditions, textConditions, Accepts}
 use Rattle.plan_text.specs.Reading.{reading}
@@ -47,16 +47,16 @@ module _ (text : List ℕ) where
       one-said 0 0 0 [] a b (s .says) (t .says)
       (says-whole (recordsOf (linesOf text)) (a .plan) (b .plan) (s .sized) (t .sized) (s .sound) (t .sound) (s .plan .so-far) (t .plan .so-far))
 
-  one-line : (rs : List Record) (n from : ℕ) (l : Line) → OneEach (lineConditions text rs n from l)
+  one-line : (rs : List Record) (n from : ℕ) (l : Line) → EachCondition OneRefusal (lineConditions text rs n from l)
   one-line rs n from l =
       let one : (number : ℕ) (a b : Reading) → Refuses text number n from (l .bytes) a → Refuses text number n from (l .bytes) b → a ≡ b =
       λ number. one-refused number n from (l .bytes) in
       (one 2, (one 3, (one 4, (one 5, (one 6, (one 5, tt))))))
 
-  one-lines : (ls before : List Line) → OneEach (linesConditions text before ls)
+  one-lines : (ls before : List Line) → EachCondition OneRefusal (linesConditions text before ls)
   one-lines [] before = tt
   one-lines (l ∷ ls) before =
-      one-append (lineConditions text (recordsOf before) (length before + 1) (startAfter before) l) (linesConditions text (before ++ l ∷ []) ls)
+      conditions-append OneRefusal (lineConditions text (recordsOf before) (length before + 1) (startAfter before) l) (linesConditions text (before ++ l ∷ []) ls)
       (one-line (recordsOf before) (length before + 1) (startAfter before) l) (one-lines ls (before ++ l ∷ []))
 
   -- whatever answers the questions as they are worded is the reading
@@ -64,7 +64,7 @@ module _ (text : List ℕ) where
   reading-one a h =
       failure-one (Accepts text) one-accepted (textConditions text) (
         one-refused 1 0 0 [],
-        one-append (linesConditions text [] (linesOf text)) (lastConditions text (linesOf text)) (one-lines (linesOf text) [])
+        conditions-append OneRefusal (linesConditions text [] (linesOf text)) (lastConditions text (linesOf text)) (one-lines (linesOf text) [])
             (one-refused 7 (length (linesOf text) + 1) 0 [], tt),
       )
       a (reading text) h (reading-first-failure text)
