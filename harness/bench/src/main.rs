@@ -4,8 +4,9 @@
 mod measure;
 mod plans;
 
+use differential::cells::{self, TABLE};
+use differential::compare::answer;
 use differential::inputs::CROSSING;
-use library::{cell, Answer, CELL, MAX_OUTPUT};
 use measure::{measure, print_head, time, ROUNDS};
 use plans::{
     conforming_plan, event_plan, event_table, first_stages, full_text, longest_plan, Size, SMALLEST,
@@ -14,9 +15,10 @@ use reference::drain::drain;
 use reference::event;
 use reference::run::run;
 use reference::spelling::write_plan;
-use reference::text::{read_plan, MAX_TEXT};
+use reference::text::read_plan;
 use reference::upstream::check;
 use reference::{Plan, Table};
+use rilthoss::{Answer, CELL_SIZE, MAX_OUTPUT, MAX_TEXT};
 use std::hint::black_box;
 
 fn main() {
@@ -43,25 +45,17 @@ fn main() {
     println!("A copy of a plan, 8,340 bytes: {}.", copy_time());
 }
 
-fn answer(number: u32, first: u32, second: u32) -> Answer {
-    Answer {
-        number,
-        first,
-        second,
-    }
-}
-
 fn read_lines() {
     let text = full_text(65_536);
-    let mut bytes = vec![0; CELL];
+    let mut bytes = vec![0; CELL_SIZE];
     let reading = read_plan(&text);
     assert_eq!(reading.number, 0);
-    assert_eq!(library::read_plan(&mut bytes, &text), answer(0, 0, 0));
-    assert_eq!(bytes, cell::encode(&reading.plan, &Table::EMPTY));
+    assert_eq!(rilthoss::read_plan(&mut bytes, &text), answer(0, 0, 0));
+    assert_eq!(bytes, cells::encode(&reading.plan, &Table::EMPTY));
     measure(
         "read a plan text of 65,536 bytes",
         || {
-            black_box(library::read_plan(&mut bytes, black_box(&text)));
+            black_box(rilthoss::read_plan(&mut bytes, black_box(&text)));
         },
         || {
             black_box(read_plan(black_box(&text)));
@@ -77,18 +71,18 @@ fn write_lines() {
 
 /// Both sides ask whether the plan is sound and measure its text before they write it.
 fn write_line(what: &str, plan: &Plan) {
-    let bytes = cell::encode(plan, &Table::EMPTY);
+    let bytes = cells::encode(plan, &Table::EMPTY);
     let mut space = vec![0; MAX_TEXT];
     let mut found = space.clone();
     let writing = write_plan(plan, &mut space);
     assert_eq!(writing.number, 0);
-    let answered = library::write_plan(&bytes, &mut found);
+    let answered = rilthoss::write_plan(&bytes, &mut found);
     assert_eq!(answered, answer(0, writing.length, 0));
     assert_eq!(found, space);
     measure(
         &format!("write {what}"),
         || {
-            black_box(library::write_plan(
+            black_box(rilthoss::write_plan(
                 black_box(&bytes),
                 black_box(&mut found),
             ));
@@ -102,13 +96,13 @@ fn write_line(what: &str, plan: &Plan) {
 /// What a call costs before a question is asked: the empty plan fails the first one at once.
 fn fixed_line() {
     let mut table = Table::EMPTY;
-    let mut bytes = cell::encode(&Plan::EMPTY, &table);
+    let mut bytes = cells::encode(&Plan::EMPTY, &table);
     assert_eq!(event::advance(&Plan::EMPTY, &mut table, 1).number, 11);
-    assert_eq!(library::advance(&mut bytes, 1), answer(11, 0, 0));
+    assert_eq!(rilthoss::advance(&mut bytes, 1), answer(11, 0, 0));
     measure(
         "advance, refused (11), the empty plan",
         || {
-            black_box(library::advance(&mut bytes, black_box(1)));
+            black_box(rilthoss::advance(&mut bytes, black_box(1)));
         },
         || {
             black_box(event::advance(
@@ -146,8 +140,8 @@ fn event_lines(size: Size, jobs: usize) {
     let plan = event_plan(size, None);
     let tight = event_plan(size, Some(&before));
     let last = jobs as u32;
-    let advances: Calls = (library::advance, event::advance);
-    let pulls: Calls = (library::pull, event::pull);
+    let advances: Calls = (rilthoss::advance, event::advance);
+    let pulls: Calls = (rilthoss::pull, event::pull);
     let plural = if jobs == 1 { "" } else { "s" };
     let of = format!("{jobs} job{plural}, {size}");
     event_line(
@@ -179,17 +173,17 @@ fn event_lines(size: Size, jobs: usize) {
 fn event_line(what: &str, plan: &Plan, before: &Table, job: u32, number: u32, calls: Calls) {
     let (at_cell, at_table) = calls;
     let mut table = before.clone();
-    let mut bytes = cell::encode(plan, before);
-    let restored = bytes[cell::TABLE..].to_vec();
+    let mut bytes = cells::encode(plan, before);
+    let restored = bytes[TABLE..].to_vec();
     let expected = at_table(plan, &mut table, job);
     assert_eq!(expected.number, number);
     let found = at_cell(&mut bytes, job);
     assert_eq!(found, answer(expected.number, expected.place, 0));
-    assert_eq!(bytes, cell::encode(plan, &table));
+    assert_eq!(bytes, cells::encode(plan, &table));
     measure(
         what,
         || {
-            bytes[cell::TABLE..].copy_from_slice(black_box(&restored));
+            bytes[TABLE..].copy_from_slice(black_box(&restored));
             black_box(at_cell(&mut bytes, black_box(job)));
         },
         || {
@@ -201,13 +195,13 @@ fn event_line(what: &str, plan: &Plan, before: &Table, job: u32, number: u32, ca
 
 fn check_lines(size: Size) {
     let plan = conforming_plan(size);
-    let bytes = cell::encode(&plan, &Table::EMPTY);
+    let bytes = cells::encode(&plan, &Table::EMPTY);
     assert_eq!(check(&plan).number, 0);
-    assert_eq!(library::check(&bytes), answer(0, 0, 0));
+    assert_eq!(rilthoss::check(&bytes), answer(0, 0, 0));
     measure(
         &format!("upstream check, {size}"),
         || {
-            black_box(library::check(black_box(&bytes)));
+            black_box(rilthoss::check(black_box(&bytes)));
         },
         || {
             black_box(check(black_box(&plan)));
@@ -219,18 +213,18 @@ fn drain_lines(size: Size) {
     let plan = conforming_plan(size);
     let before = first_stages(&plan, 64);
     let mut table = before.clone();
-    let mut bytes = cell::encode(&plan, &before);
-    let restored = bytes[cell::TABLE..].to_vec();
+    let mut bytes = cells::encode(&plan, &before);
+    let restored = bytes[TABLE..].to_vec();
     let drained = drain(&plan, &mut table, u32::MAX);
     assert_eq!(drained.number, 0);
-    let found = library::drain(&mut bytes, u32::MAX);
+    let found = rilthoss::drain(&mut bytes, u32::MAX);
     assert_eq!(found, answer(0, drained.moves, 0));
-    assert_eq!(bytes, cell::encode(&plan, &Table::EMPTY));
+    assert_eq!(bytes, cells::encode(&plan, &Table::EMPTY));
     measure(
         &format!("drain of 64 jobs, {} moves, {size}", drained.moves),
         || {
-            bytes[cell::TABLE..].copy_from_slice(black_box(&restored));
-            black_box(library::drain(&mut bytes, u32::MAX));
+            bytes[TABLE..].copy_from_slice(black_box(&restored));
+            black_box(rilthoss::drain(&mut bytes, u32::MAX));
         },
         || {
             table.clone_from(black_box(&before));
@@ -257,12 +251,12 @@ fn run_line(what: &str, input: &[u8]) {
     let mut output = vec![0; MAX_OUTPUT];
     let printed = run(input);
     assert!(printed.starts_with(b"P\t0\t0\n"));
-    let length = library::run(input, &mut output);
+    let length = rilthoss::run(input, &mut output);
     assert_eq!(output[..length], printed);
     measure(
         &format!("cellmoves, 65,536 bytes: {what}"),
         || {
-            black_box(library::run(black_box(input), &mut output));
+            black_box(rilthoss::run(black_box(input), &mut output));
         },
         || {
             black_box(run(black_box(input)));

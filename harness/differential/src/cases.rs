@@ -1,5 +1,6 @@
 //! The kinds of cases, and the runs of many of them.
 
+use crate::cells;
 use crate::compare::{compare_run, Call, Sides, Space};
 use crate::counts::{Counts, Group};
 use crate::events;
@@ -8,8 +9,8 @@ use crate::patterns;
 use crate::plans::{self, Size};
 use crate::random::Random;
 use crate::texts;
-use library::{cell, CELL, MAX_OUTPUT};
 use reference::{Plan, Table};
+use rilthoss::{CELL_SIZE, MAX_OUTPUT};
 use std::panic::{catch_unwind, AssertUnwindSafe};
 use std::thread;
 
@@ -123,8 +124,8 @@ fn demand(holds: bool, what: &str) -> Result<(), String> {
 fn set_length(random: &mut Random, bytes: &mut Vec<u8>) {
     match random.below(100) {
         0..=1 => {
-            let any = random.below(CELL);
-            bytes.truncate(random.pick(&[0, 1, CELL - 1, any]));
+            let any = random.below(CELL_SIZE);
+            bytes.truncate(random.pick(&[0, 1, CELL_SIZE - 1, any]));
         }
         2..=16 => {
             let more = random.between(1, 40);
@@ -161,16 +162,16 @@ fn text_space(random: &mut Random) -> Space {
 /// A text into a cell of random bytes, and as an input of the program.
 fn text_case(random: &mut Random, counts: &mut Counts) -> Result<(), String> {
     let text = texts::text(random);
-    let mut bytes = random.bytes(CELL);
+    let mut bytes = random.bytes(CELL_SIZE);
     set_length(random, &mut bytes);
-    let is_short = bytes.len() < CELL;
+    let is_short = bytes.len() < CELL_SIZE;
     let mut sides = Sides::new(bytes, counts);
     let answer = sides.read_plan(&text.bytes)?;
     if let (Some(plan), false) = (&text.accepted, is_short) {
-        demand(answer.number == 0, "a valid text was refused")?;
+        demand(answer.number() == 0, "a valid text was refused")?;
         demand(sides.plan == *plan, "the plan is not the one written")?;
     }
-    if answer.number == 0 && random.chance(20) {
+    if answer.number() == 0 && random.chance(20) {
         respell(random, &mut sides, &text.bytes)?;
     }
     let space = space(random);
@@ -184,14 +185,14 @@ fn sides<'a>(
     plan: &Plan,
     table: &Table,
 ) -> Result<Sides<'a>, String> {
-    let mut bytes = cell::encode(plan, table);
+    let mut bytes = cells::encode(plan, table);
     if random.chance(15) {
         bytes.extend(random.bytes(20));
     }
     if random.chance(85) {
         return Ok(Sides::new(bytes, counts));
     }
-    random.fill(&mut bytes[..cell::TABLE]);
+    random.fill(&mut bytes[..cells::TABLE]);
     let text = texts::join(&texts::lines(random, plan));
     let mut sides = Sides::new(bytes, counts);
     sides.read_plan(&text)?;
@@ -212,7 +213,7 @@ fn events_case(random: &mut Random, counts: &mut Counts) -> Result<(), String> {
     for _ in 0..random.between(6, 40) {
         let call = events::call(random, course, &sides.plan, &sides.table);
         let answer = sides.call(call)?;
-        let is_refused = matches!(answer.number, 11 | 12);
+        let is_refused = matches!(answer.number(), 11 | 12);
         demand(!is_refused || !is_read, "a sound cell was refused")?;
     }
     Ok(())
@@ -248,15 +249,15 @@ fn pattern_case(random: &mut Random, counts: &mut Counts) -> Result<(), String> 
 fn check_case(random: &mut Random, counts: &mut Counts) -> Result<(), String> {
     let size = plans::size(random);
     let mut plan = plans::conforming(random, size);
-    let bytes = cell::encode(&plan, &Table::EMPTY);
+    let bytes = cells::encode(&plan, &Table::EMPTY);
     let answer = Sides::new(bytes, counts).call(Call::Check)?;
-    demand(answer.number == 0, "a conforming plan was refused")?;
+    demand(answer.number() == 0, "a conforming plan was refused")?;
     for _ in 0..random.between(1, 3) {
         let number = random.pick(&[21, 22, 23, 24, 24, 24, 25, 25]);
         plans::add_fault(random, &mut plan, number);
-        let bytes = cell::encode(&plan, &Table::EMPTY);
+        let bytes = cells::encode(&plan, &Table::EMPTY);
         let answer = Sides::new(bytes, counts).call(Call::Check)?;
-        demand(answer.number != 11, "a sound plan was refused")?;
+        demand(answer.number() != 11, "a sound plan was refused")?;
     }
     Ok(())
 }
@@ -291,8 +292,8 @@ fn emptying_case(random: &mut Random, counts: &mut Counts) -> Result<(), String>
     let left = events::stages_left(&plan, &sides.table);
     let budget = u32::MAX;
     let answer = sides.call(Call::Drain { budget })?;
-    demand(answer.number == 0, "a drain stopped early")?;
-    demand(answer.first == left, "a drain miscounted its moves")?;
+    demand(answer.number() == 0, "a drain stopped early")?;
+    demand(answer.moves() == left, "a drain miscounted its moves")?;
     demand(sides.table == Table::EMPTY, "a drained table is not empty")
 }
 
@@ -314,9 +315,9 @@ fn writing_case(random: &mut Random, counts: &mut Counts) -> Result<(), String> 
         return Ok(());
     }
     let plan = sides.plan;
-    let mut sides = Sides::new(random.bytes(CELL), counts);
+    let mut sides = Sides::new(random.bytes(CELL_SIZE), counts);
     let answer = sides.read_plan(&text)?;
-    demand(answer.number == 0, "a written text was refused")?;
+    demand(answer.number() == 0, "a written text was refused")?;
     demand(sides.plan == plan, "a written text gives another plan")?;
     let again = sides.write_plan(Space::More(0), random)?;
     demand(again == text, "a written text is written otherwise")
@@ -338,8 +339,8 @@ fn written_cell(random: &mut Random) -> Vec<u8> {
     if random.chance(15) {
         patterns::change_plan(random, &mut plan);
     }
-    let mut bytes = random.bytes(CELL);
-    cell::encode_plan(&plan, &mut bytes);
+    let mut bytes = random.bytes(CELL_SIZE);
+    cells::encode_plan(&plan, &mut bytes);
     bytes
 }
 
@@ -363,12 +364,12 @@ fn shuffled_case(random: &mut Random, counts: &mut Counts) -> Result<(), String>
             break (plan, text);
         }
     };
-    let mut sides = Sides::new(random.bytes(CELL), counts);
+    let mut sides = Sides::new(random.bytes(CELL_SIZE), counts);
     let answer = sides.read_plan(&text)?;
-    demand(answer.number == 0, "a shuffled text was refused")?;
+    demand(answer.number() == 0, "a shuffled text was refused")?;
     demand(sides.plan == plan, "a shuffled text gives another plan")?;
     respell(random, &mut sides, &text)?;
-    counts.add(Group::Shuffled, answer.number);
+    counts.add(Group::Shuffled, answer.number());
     Ok(())
 }
 
@@ -385,7 +386,7 @@ fn respell(random: &mut Random, sides: &mut Sides<'_>, text: &[u8]) -> Result<()
     )?;
     demand(spelling.len() <= text.len(), "a spelling is longer")?;
     let answer = sides.read_plan(&spelling)?;
-    demand(answer.number == 0, "a spelling was refused")?;
+    demand(answer.number() == 0, "a spelling was refused")?;
     demand(sides.plan == plan, "a spelling gives another plan")?;
     let again = sides.write_plan(Space::More(more), random)?;
     demand(again == spelling, "a spelling is written otherwise")

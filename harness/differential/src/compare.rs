@@ -1,17 +1,18 @@
 //! One cell on both sides: each call is made of the library on its bytes and of the reference on
 //! its own plan and table, and answer and bytes are compared after every call.
 
+use crate::cells;
 use crate::counts::{Counts, Group};
 use crate::guarded::Guarded;
 use crate::random::Random;
 use crate::rows::broken;
-use library::{cell, Answer, CELL};
 use reference::drain::drain;
 use reference::event::{advance, load, pull, unload};
 use reference::spelling::{text_length, write_plan};
 use reference::text::read_plan;
 use reference::upstream::check;
 use reference::{Plan, Table};
+use rilthoss::{Answer, CELL_SIZE};
 use std::fmt::Debug;
 
 #[derive(Clone, Copy, Debug, PartialEq, Eq)]
@@ -61,10 +62,10 @@ pub struct Sides<'a> {
 impl Sides<'_> {
     pub fn new(bytes: Vec<u8>, counts: &mut Counts) -> Sides<'_> {
         let mut whole = bytes.clone();
-        whole.resize(bytes.len().max(CELL), 0);
+        whole.resize(bytes.len().max(CELL_SIZE), 0);
         Sides {
-            plan: cell::decode_plan(&whole),
-            table: cell::decode_table(&whole),
+            plan: cells::decode_plan(&whole),
+            table: cells::decode_table(&whole),
             counts,
             found: Guarded::new(&bytes),
             expected: bytes,
@@ -73,21 +74,21 @@ impl Sides<'_> {
 
     /// Every function answers 9 to a cell that is too short, before anything else.
     fn is_short(&self) -> bool {
-        self.expected.len() < CELL
+        self.expected.len() < CELL_SIZE
     }
 
     /// Reads a text into the plan; the table's bytes stay.
     pub fn read_plan(&mut self, text: &[u8]) -> Result<Answer, String> {
-        let found = library::read_plan(self.found.inner_mut(), text);
+        let found = rilthoss::read_plan(self.found.inner_mut(), text);
         let expected = if self.is_short() {
             answer(9, 0, 0)
         } else {
             let reading = read_plan(text);
             self.plan = reading.plan;
-            cell::encode_plan(&self.plan, &mut self.expected);
+            cells::encode_plan(&self.plan, &mut self.expected);
             answer(reading.number, reading.line, 0)
         };
-        self.counts.add(Group::Text, expected.number);
+        self.counts.add(Group::Text, expected.number());
         self.compare(format_args!("reading"), expected, found)
             .map_err(|difference| format!("{difference}\n  text {}", shown(text)))?;
         Ok(expected)
@@ -107,8 +108,8 @@ impl Sides<'_> {
             let writing = write_plan(&self.plan, &mut expected);
             (answer(writing.number, writing.length, 0), length)
         };
-        self.counts.add_writing(due.number, asked, expected.len());
-        let given = library::write_plan(self.found.inner(), found.inner_mut());
+        self.counts.add_writing(due.number(), asked, expected.len());
+        let given = rilthoss::write_plan(self.found.inner(), found.inner_mut());
         self.compare(format_args!("writing"), due, given)
             .and_then(|()| compare_bytes(&expected, found.inner()))
             .and_then(|()| found.check())
@@ -116,16 +117,16 @@ impl Sides<'_> {
                 let (expected, found) = (shown(&expected), shown(found.inner()));
                 format!("{difference}\n  expected {expected}\n  found {found}")
             })?;
-        Ok(found.inner()[..due.first as usize].to_vec())
+        Ok(found.inner()[..due.length()].to_vec())
     }
 
     pub fn call(&mut self, call: Call) -> Result<Answer, String> {
         let expected = self.expect(call);
         let found = self.find(call);
-        self.counts.add_call(call, expected.number);
+        self.counts.add_call(call, expected.number());
         self.compare(call, expected, found)?;
-        if expected.number == 19 {
-            self.count_rows(call, expected.first)?;
+        if expected.number() == 19 {
+            self.count_rows(call, expected.place())?;
         }
         Ok(expected)
     }
@@ -161,19 +162,19 @@ impl Sides<'_> {
                 answer(drained.number, drained.moves, 0)
             }
         };
-        cell::encode_table(&self.table, &mut self.expected);
+        cells::encode_table(&self.table, &mut self.expected);
         expected
     }
 
     fn find(&mut self, call: Call) -> Answer {
         let bytes = self.found.inner_mut();
         match call {
-            Call::Check => library::check(bytes),
-            Call::Load { job, job_type } => library::load(bytes, job, job_type),
-            Call::Advance { job } => library::advance(bytes, job),
-            Call::Unload { job } => library::unload(bytes, job),
-            Call::Pull { job } => library::pull(bytes, job),
-            Call::Drain { budget } => library::drain(bytes, budget),
+            Call::Check => rilthoss::check(bytes),
+            Call::Load { job, job_type } => rilthoss::load(bytes, job, job_type),
+            Call::Advance { job } => rilthoss::advance(bytes, job),
+            Call::Unload { job } => rilthoss::unload(bytes, job),
+            Call::Pull { job } => rilthoss::pull(bytes, job),
+            Call::Drain { budget } => rilthoss::drain(bytes, budget),
         }
     }
 
@@ -204,7 +205,7 @@ pub fn compare_run(
     }
     counts.add(Group::Fit, u32::from(fits));
     let expected_length = if fits { printed.len() } else { 0 };
-    let found_length = library::run(input, found.inner_mut());
+    let found_length = rilthoss::run(input, found.inner_mut());
     compare_lengths(expected_length, found_length)
         .and_then(|()| compare_bytes(&expected, found.inner()))
         .and_then(|()| found.check())
@@ -218,12 +219,10 @@ pub fn compare_run(
         })
 }
 
+/// The answer with these parts; the first is a place, a line, a length or a count of moves.
 pub fn answer(number: u32, first: u32, second: u32) -> Answer {
-    Answer {
-        number,
-        first,
-        second,
-    }
+    let [number, first, second] = [number, first, second].map(u64::from);
+    (number | second << 16 | first << 32).into()
 }
 
 pub fn compare_answers(expected: Answer, found: Answer) -> Result<(), String> {
@@ -285,9 +284,9 @@ mod tests {
 
     #[test]
     fn every_changed_byte_is_reported() {
-        let right = vec![7; CELL];
+        let right = vec![7; CELL_SIZE];
         assert!(compare_bytes(&right, &right).is_ok());
-        for place in 0..CELL {
+        for place in 0..CELL_SIZE {
             let mut wrong = right.clone();
             wrong[place] ^= 1;
             let report = compare_bytes(&right, &wrong).expect_err("a difference");
@@ -301,7 +300,7 @@ mod tests {
     fn changed_expectations_are_reported() {
         let mut random = Random::of_case(1, 1);
         let plan = conforming(&mut random, Size::Tiny);
-        let bytes = cell::encode(&plan, &Table::EMPTY);
+        let bytes = cells::encode(&plan, &Table::EMPTY);
         let mut counts = Counts::default();
         let mut sides = Sides::new(bytes.clone(), &mut counts);
         assert!(sides.call(Call::Check).is_ok());
@@ -320,7 +319,7 @@ mod tests {
     fn changed_writings_are_reported() {
         let mut random = Random::of_case(1, 2);
         let plan = conforming(&mut random, Size::Tiny);
-        let bytes = cell::encode(&plan, &Table::EMPTY);
+        let bytes = cells::encode(&plan, &Table::EMPTY);
         let mut counts = Counts::default();
         let mut sides = Sides::new(bytes.clone(), &mut counts);
         for space in [Space::More(9), Space::OneLess] {

@@ -2,6 +2,7 @@
 //! answer and every byte must be the same. A case is fixed by its seed and index alone.
 
 pub mod cases;
+pub mod cells;
 pub mod compare;
 pub mod counts;
 pub mod events;

@@ -1,14 +1,15 @@
 //! Cells of any bits: sound plans and agreeing tables with some places changed, and random bytes.
 
+use crate::cells;
 use crate::events::bad_near;
 use crate::plans;
 use crate::random::Random;
-use library::{cell, CELL};
 use reference::{Job, Plan, Stage, Table};
+use rilthoss::{offset, CELL_SIZE};
 
 pub fn bytes(random: &mut Random) -> Vec<u8> {
     match random.below(100) {
-        0..=2 => random.bytes(CELL),
+        0..=2 => random.bytes(CELL_SIZE),
         3..=5 => sparse(random),
         6..=8 => small_counts(random),
         _ => changed(random),
@@ -17,9 +18,9 @@ pub fn bytes(random: &mut Random) -> Vec<u8> {
 
 /// Zeros with a few other bytes.
 fn sparse(random: &mut Random) -> Vec<u8> {
-    let mut bytes = vec![0; CELL];
+    let mut bytes = vec![0; CELL_SIZE];
     for _ in 0..random.below(6) {
-        let most = random.pick(&[3, cell::STAGES, CELL]);
+        let most = random.pick(&[3, offset::STAGES, CELL_SIZE]);
         bytes[random.below(most)] = random.byte();
     }
     bytes
@@ -27,11 +28,11 @@ fn sparse(random: &mut Random) -> Vec<u8> {
 
 /// Random bytes under counts that are in range.
 fn small_counts(random: &mut Random) -> Vec<u8> {
-    let mut bytes = random.bytes(CELL);
-    bytes[cell::RESOURCES] = random.between(1, 32) as u8;
-    bytes[cell::TYPES] = random.between(1, 16) as u8;
-    bytes[cell::ROWS] = random.between(0, 32) as u8;
-    bytes[cell::TABLE] = random.between(0, 64) as u8;
+    let mut bytes = random.bytes(CELL_SIZE);
+    bytes[offset::RESOURCES] = random.between(1, 32) as u8;
+    bytes[offset::TYPES] = random.between(1, 16) as u8;
+    bytes[offset::ROWS] = random.between(0, 32) as u8;
+    bytes[offset::JOB_COUNT] = random.between(0, 64) as u8;
     bytes
 }
 
@@ -53,9 +54,9 @@ fn changed(random: &mut Random) -> Vec<u8> {
         }
         _ => plans::tighten(random, &mut plan, &table),
     }
-    let mut bytes = cell::encode(&plan, &table);
+    let mut bytes = cells::encode(&plan, &table);
     if random.chance(15) {
-        bytes[random.below(CELL)] ^= 1 << random.below(8);
+        bytes[random.below(CELL_SIZE)] ^= 1 << random.below(8);
     }
     bytes
 }

@@ -1,8 +1,10 @@
 //! The worked runs of document 01, pulls, the row that 19 names and the spelling of a plan
 //! (document 02, S-1 to S-3), asked of the library itself, without the reference.
 
+use differential::cells;
+use differential::compare::answer;
 use differential::guarded::Guarded;
-use library::{cell, Answer, CELL, MAX_OUTPUT};
+use rilthoss::{offset, Answer, CELL_SIZE, MAX_OUTPUT, STAGE_SIZE};
 use std::collections::BTreeSet;
 
 #[path = "../../reference/tests/document/mod.rs"]
@@ -15,17 +17,9 @@ use document::spellings::{
 };
 use document::{tabbed, table, CROSSING, EQUATION_40, WITHOUT_ROWS};
 
-fn answer(number: u32, first: u32, second: u32) -> Answer {
-    Answer {
-        number,
-        first,
-        second,
-    }
-}
-
 fn read(text: &str) -> (Answer, Vec<u8>) {
-    let mut bytes = vec![0; CELL];
-    let answer = library::read_plan(&mut bytes, &tabbed(text));
+    let mut bytes = vec![0; CELL_SIZE];
+    let answer = rilthoss::read_plan(&mut bytes, &tabbed(text));
     (answer, bytes)
 }
 
@@ -33,14 +27,14 @@ fn read(text: &str) -> (Answer, Vec<u8>) {
 fn cell(text: &str, counts: [u8; 6]) -> Vec<u8> {
     let (read, mut bytes) = read(text);
     assert_eq!(read, answer(0, 0, 0));
-    cell::encode_table(&table(counts), &mut bytes);
+    cells::encode_table(&table(counts), &mut bytes);
     bytes
 }
 
 /// The jobs of a cell by type and stage.
 fn counts(bytes: &[u8]) -> [u8; 6] {
     let mut counts = [0; 6];
-    for job in cell::decode_table(bytes).active() {
+    for job in cells::decode_table(bytes).active() {
         counts[(job.job_type as usize - 1) * 3 + job.stage as usize - 1] += 1;
     }
     counts
@@ -48,7 +42,7 @@ fn counts(bytes: &[u8]) -> [u8; 6] {
 
 fn assert_run(input: &str, printed: &str) {
     let mut output = vec![0; MAX_OUTPUT];
-    let length = library::run(&tabbed(input), &mut output);
+    let length = rilthoss::run(&tabbed(input), &mut output);
     assert_eq!(output[..length], tabbed(printed), "{input}");
 }
 
@@ -66,7 +60,7 @@ fn assert_refused(before: &[u8], event: impl Fn(&mut [u8]) -> Answer, number: u3
 }
 
 fn load(bytes: &mut [u8]) -> Answer {
-    library::load(bytes, 99, 1)
+    rilthoss::load(bytes, 99, 1)
 }
 
 /// No byte of a text.
@@ -77,7 +71,7 @@ const FILLING: u8 = 0xEE;
 fn write(bytes: &[u8], length: usize) -> (Answer, Vec<u8>) {
     let before = bytes.to_vec();
     let mut space = Guarded::new(&vec![FILLING; length]);
-    let answer = library::write_plan(bytes, space.inner_mut());
+    let answer = rilthoss::write_plan(bytes, space.inner_mut());
     assert_eq!(bytes, before);
     assert_eq!(space.check(), Ok(()));
     (answer, space.inner().to_vec())
@@ -86,8 +80,8 @@ fn write(bytes: &[u8], length: usize) -> (Answer, Vec<u8>) {
 /// The text of a cell's plan; what lies beyond it in the space stays.
 fn written(bytes: &[u8], length: usize) -> Vec<u8> {
     let (found, space) = write(bytes, length);
-    assert_eq!(found, answer(0, found.first, 0));
-    let (text, beyond) = space.split_at(found.first as usize);
+    assert_eq!(found, answer(0, found.place(), 0));
+    let (text, beyond) = space.split_at(found.length());
     assert!(beyond.iter().all(|&byte| byte == FILLING));
     text.to_vec()
 }
@@ -101,7 +95,7 @@ fn assert_unwritten(bytes: &[u8], number: u32, length: usize) {
 /// The cell of the longest text with one digit more: 65,537 bytes.
 fn too_long() -> Vec<u8> {
     let mut bytes = cell(&longest(), [0; 6]);
-    bytes[cell::BOUND + 2 * (ROW_OF_ONE_DIGIT - 1)] = 10;
+    bytes[offset::BOUNDS + 2 * (ROW_OF_ONE_DIGIT - 1)] = 10;
     bytes
 }
 
@@ -153,7 +147,7 @@ fn texts() {
     for (text, number, line) in cases {
         assert_eq!(
             read(text),
-            (answer(number, line, 0), vec![0; CELL]),
+            (answer(number, line, 0), vec![0; CELL_SIZE]),
             "{text}"
         );
     }
@@ -170,7 +164,7 @@ fn checks() {
         (EQUATION_40, answer(21, 0, 0)),
     ];
     for (text, expected) in cases {
-        assert_eq!(library::check(&cell(text, [0; 6])), expected);
+        assert_eq!(rilthoss::check(&cell(text, [0; 6])), expected);
     }
 }
 
@@ -178,7 +172,7 @@ fn checks() {
 #[test]
 fn equation_40() {
     let mut kept = cell(EQUATION_40, [1, 0, 0, 1, 1, 0]);
-    assert_eq!(library::unload(&mut kept, 99), answer(14, 0, 0));
+    assert_eq!(rilthoss::unload(&mut kept, 99), answer(14, 0, 0));
     let cases = [
         ([1, 1, 0, 0, 1, 0], 2, [1, 1, 0, 1, 1, 0], 3),
         ([1, 2, 0, 0, 0, 0], 2, [1, 2, 0, 1, 0, 0], 2),
@@ -186,9 +180,9 @@ fn equation_40() {
     ];
     for (before, job_type, after, row) in cases {
         let mut bytes = cell(EQUATION_40, before);
-        assert_eq!(library::load(&mut bytes, 9, job_type), answer(19, row, 0));
+        assert_eq!(rilthoss::load(&mut bytes, 9, job_type), answer(19, row, 0));
         let mut bytes = cell(EQUATION_40, after);
-        assert_eq!(library::unload(&mut bytes, 1), answer(12, 0, 0));
+        assert_eq!(rilthoss::unload(&mut bytes, 1), answer(12, 0, 0));
     }
 }
 
@@ -213,7 +207,7 @@ fn rows_broken_by_an_advance() {
     for &(bounds, stages, row, _) in ADVANCES {
         let two = cell(&weighed(bounds, &stages), [2, 0, 0, 0, 0, 0]);
         for job in [1, 2] {
-            assert_refused(&two, |bytes| library::advance(bytes, job), 19, row);
+            assert_refused(&two, |bytes| rilthoss::advance(bytes, job), 19, row);
         }
     }
 }
@@ -241,40 +235,40 @@ fn rows_broken_before() {
     let full = cell(&weighed(&[1, 0], &[&[255; 2]]), [64, 0, 0, 0, 0, 0]);
     for bytes in [two, full] {
         assert_refused(&bytes, load, 12, 0);
-        assert_refused(&bytes, |bytes| library::unload(bytes, 1), 12, 0);
+        assert_refused(&bytes, |bytes| rilthoss::unload(bytes, 1), 12, 0);
     }
 }
 
 #[test]
 fn drains() {
     let mut bytes = cell(CROSSING, [1, 0, 0, 0, 0, 0]);
-    assert_eq!(library::drain(&mut bytes, 2), answer(31, 2, 0));
+    assert_eq!(rilthoss::drain(&mut bytes, 2), answer(31, 2, 0));
     assert_eq!(counts(&bytes), [0, 0, 1, 0, 0, 0]);
     let mut bytes = cell(CROSSING, [1, 0, 0, 0, 0, 0]);
-    assert_eq!(library::drain(&mut bytes, 3), answer(0, 3, 0));
-    assert_eq!(library::drain(&mut bytes, 0), answer(0, 0, 0));
+    assert_eq!(rilthoss::drain(&mut bytes, 3), answer(0, 3, 0));
+    assert_eq!(rilthoss::drain(&mut bytes, 0), answer(0, 0, 0));
     assert_eq!(bytes, cell(CROSSING, [0; 6]));
     let mut bytes = cell(WITHOUT_ROWS, [1, 1, 0, 1, 1, 0]);
-    assert_eq!(library::drain(&mut bytes, 5), answer(32, 0, 0));
+    assert_eq!(rilthoss::drain(&mut bytes, 5), answer(32, 0, 0));
     assert_eq!(bytes, cell(WITHOUT_ROWS, [1, 1, 0, 1, 1, 0]));
 }
 
 #[test]
 fn same_resource_advance() {
     let (_, mut bytes) = read("C 1 1 0/R 1 1/T 1 2/S 1 1 1 1/S 1 2 1 1/");
-    assert_eq!(library::load(&mut bytes, 5, 1), answer(0, 0, 0));
-    assert_eq!(library::advance(&mut bytes, 5), answer(0, 0, 0));
+    assert_eq!(rilthoss::load(&mut bytes, 5, 1), answer(0, 0, 0));
+    assert_eq!(rilthoss::advance(&mut bytes, 5), answer(0, 0, 0));
 }
 
 #[test]
 fn full_table() {
     let (_, mut bytes) = read("C 1 1 0/R 1 255/T 1 1/S 1 1 1 1/");
     for job in 1..=64 {
-        assert_eq!(library::load(&mut bytes, job, 1), answer(0, 0, 0));
+        assert_eq!(rilthoss::load(&mut bytes, job, 1), answer(0, 0, 0));
     }
-    assert_eq!(library::load(&mut bytes, 65, 1), answer(16, 0, 0));
-    assert_eq!(library::load(&mut bytes, 65, 2), answer(15, 0, 0));
-    assert_eq!(library::load(&mut bytes, 64, 2), answer(14, 0, 0));
+    assert_eq!(rilthoss::load(&mut bytes, 65, 1), answer(16, 0, 0));
+    assert_eq!(rilthoss::load(&mut bytes, 65, 2), answer(15, 0, 0));
+    assert_eq!(rilthoss::load(&mut bytes, 64, 2), answer(14, 0, 0));
 }
 
 /// A job is pulled at whichever stage it has.
@@ -284,7 +278,7 @@ fn pulls_at_every_stage() {
         let mut one = [0; 6];
         one[place] = 1;
         let mut bytes = cell(CROSSING, one);
-        assert_eq!(library::pull(&mut bytes, 1), answer(0, 0, 0));
+        assert_eq!(rilthoss::pull(&mut bytes, 1), answer(0, 0, 0));
         assert_eq!(bytes, cell(CROSSING, [0; 6]));
     }
 }
@@ -294,13 +288,13 @@ fn pulls_at_every_stage() {
 #[test]
 fn pull_from_a_locked_table() {
     let mut bytes = cell(WITHOUT_ROWS, [1, 1, 0, 1, 1, 0]);
-    assert_eq!(library::drain(&mut bytes, 9), answer(32, 0, 0));
-    assert_eq!(library::pull(&mut bytes, 2), answer(0, 0, 0));
+    assert_eq!(rilthoss::drain(&mut bytes, 9), answer(32, 0, 0));
+    assert_eq!(rilthoss::pull(&mut bytes, 2), answer(0, 0, 0));
     let mut left = table([1, 0, 0, 1, 1, 0]);
     left.jobs[1].number = 3;
     left.jobs[2].number = 4;
-    assert_eq!(cell::decode_table(&bytes), left);
-    assert_eq!(library::drain(&mut bytes, 9), answer(0, 8, 0));
+    assert_eq!(cells::decode_table(&bytes), left);
+    assert_eq!(rilthoss::drain(&mut bytes, 9), answer(0, 8, 0));
 }
 
 #[test]
@@ -308,8 +302,8 @@ fn refused_pulls() {
     let broken = cell(EQUATION_40, [1, 1, 0, 1, 1, 0]);
     let kept = cell(EQUATION_40, [1, 0, 0, 1, 1, 0]);
     let mut unsound = kept.clone();
-    unsound[cell::TYPES] = 0;
-    let short = kept[..CELL - 1].to_vec();
+    unsound[offset::TYPES] = 0;
+    let short = kept[..CELL_SIZE - 1].to_vec();
     let cases = [
         (short, 1, 9),
         (unsound, 1, 11),
@@ -319,7 +313,7 @@ fn refused_pulls() {
         (kept, 99, 14),
     ];
     for (before, job, number) in cases {
-        assert_refused(&before, |bytes| library::pull(bytes, job), number, 0);
+        assert_refused(&before, |bytes| rilthoss::pull(bytes, job), number, 0);
     }
 }
 
@@ -335,15 +329,15 @@ fn reachable_states() {
         let before = cell(WITHOUT_ROWS, state);
         let mut visit = |event: &dyn Fn(&mut [u8]) -> Answer| {
             let mut after = before.clone();
-            if event(&mut after).number == 0 {
+            if event(&mut after).number() == 0 {
                 open.push(counts(&after));
             }
         };
-        visit(&|bytes| library::load(bytes, 99, 1));
-        visit(&|bytes| library::load(bytes, 99, 2));
-        for job in 1..=u32::from(before[cell::TABLE]) {
-            visit(&|bytes| library::advance(bytes, job));
-            visit(&|bytes| library::unload(bytes, job));
+        visit(&|bytes| rilthoss::load(bytes, 99, 1));
+        visit(&|bytes| rilthoss::load(bytes, 99, 2));
+        for job in 1..=u32::from(before[offset::JOB_COUNT]) {
+            visit(&|bytes| rilthoss::advance(bytes, job));
+            visit(&|bytes| rilthoss::unload(bytes, job));
         }
     }
     assert_eq!(states.len(), 47);
@@ -357,13 +351,13 @@ fn spellings() {
 /// By the bytes of its values, without reading a text.
 #[test]
 fn zeros_are_left_out() {
-    let mut bytes = vec![0; CELL];
+    let mut bytes = vec![0; CELL_SIZE];
     bytes[..3].copy_from_slice(&[2, 1, 2]);
-    bytes[cell::CAPACITY..][..2].fill(1);
-    bytes[cell::LENGTHS] = 2;
-    bytes[cell::STAGES + 1] = 1;
-    bytes[cell::STAGES + cell::STAGE_SIZE + 1] = 1;
-    bytes[cell::STAGES + cell::STAGE_SIZE + 33] = 1;
+    bytes[offset::CAPACITIES..][..2].fill(1);
+    bytes[offset::LENGTHS] = 2;
+    bytes[offset::STAGES + 1] = 1;
+    bytes[offset::STAGES + STAGE_SIZE + 1] = 1;
+    bytes[offset::STAGES + STAGE_SIZE + 33] = 1;
     assert_eq!(written(&bytes, 65_536), tabbed(ZEROS));
 }
 
@@ -376,7 +370,7 @@ fn spaces() {
         let length = text.len();
         let bytes = cell(text, [0; 6]);
         let mut crowded = bytes.clone();
-        crowded[cell::TABLE..].fill(0xFF);
+        crowded[cells::TABLE..].fill(0xFF);
         crowded.push(0xFF);
         for bytes in [bytes, crowded] {
             for short in [0, 1, length - 1] {
@@ -405,8 +399,8 @@ fn longest_text() {
 #[test]
 fn far_too_long() {
     let mut bytes = cell(&longest(), [0; 6]);
-    bytes[cell::CAPACITY..cell::LENGTHS].fill(0xFF);
-    bytes[cell::STAGES..cell::TABLE].fill(0xFF);
+    bytes[offset::CAPACITIES..offset::LENGTHS].fill(0xFF);
+    bytes[offset::STAGES..cells::TABLE].fill(0xFF);
     for any in [0, 65_536, 108_790, 108_791, 108_792] {
         assert_unwritten(&bytes, 9, any);
     }
@@ -423,23 +417,23 @@ fn changed(text: &str, place: usize, byte: u8) -> Vec<u8> {
 #[test]
 fn unwritten_plans() {
     let mut long = too_long();
-    long[cell::STAGES] = 2;
+    long[offset::STAGES] = 2;
     let unsound = [
-        vec![0; CELL],
-        changed(CROSSING, cell::TABLE - 1, 1),
-        changed(CROSSING, cell::STAGES, 2),
-        changed(SMALLEST, cell::STAGES, 0),
-        changed(ZEROS, cell::RANK, 1),
-        changed(ZEROS, cell::BOUND + 4, 1),
-        changed(ZEROS, cell::STAGES + 34, 1),
+        vec![0; CELL_SIZE],
+        changed(CROSSING, cells::TABLE - 1, 1),
+        changed(CROSSING, offset::STAGES, 2),
+        changed(SMALLEST, offset::STAGES, 0),
+        changed(ZEROS, offset::RANKS, 1),
+        changed(ZEROS, offset::BOUNDS + 4, 1),
+        changed(ZEROS, offset::STAGES + 34, 1),
         long,
     ];
     for any in [0, 1, 65_536, 200_000] {
         for bytes in &unsound {
             assert_unwritten(bytes, 11, any);
-            assert_unwritten(&bytes[..CELL - 1], 9, any);
+            assert_unwritten(&bytes[..CELL_SIZE - 1], 9, any);
         }
-        for length in [0, 1, cell::TABLE, CELL - 1] {
+        for length in [0, 1, cells::TABLE, CELL_SIZE - 1] {
             assert_unwritten(&cell(CROSSING, [0; 6])[..length], 9, any);
         }
     }

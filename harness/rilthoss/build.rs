@@ -15,7 +15,10 @@ fn main() {
     println!("cargo::rerun-if-changed={}", archive.display());
     if !archive.is_file() {
         let place = archive.display();
-        println!("cargo::error=there is no archive {place}: run `rt staticlib rilthoss` first");
+        println!(
+            "cargo::error=there is no archive {place}: run `host/library`, or name its folder in \
+             RILTHOSS_LIBRARY"
+        );
         return;
     }
     println!("cargo::rustc-link-search=native={}", folder.display());
