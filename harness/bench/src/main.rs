@@ -1,117 +1,44 @@
 //! The library and the reference on the same inputs, in one run and in alternating turns. The
 //! library works on the bytes of its cell, the reference on its own plan and table by reference.
+//! `bench` measures times; `bench calls COUNT` makes so many calls of each, for `harness/instructions`.
 
+mod lines;
 mod measure;
 mod plans;
 
-use differential::cells::{self, TABLE};
-use differential::compare::answer;
-use differential::inputs::CROSSING;
-use measure::{measure, print_head, time, ROUNDS};
-use plans::{
-    conforming_plan, event_plan, event_table, first_stages, full_text, longest_plan, Size, SMALLEST,
-};
-use reference::drain::drain;
-use reference::event;
-use reference::run::run;
-use reference::spelling::write_plan;
-use reference::text::read_plan;
-use reference::upstream::check;
-use reference::{Plan, Table};
-use rilthoss::{Answer, CELL_SIZE, MAX_OUTPUT, MAX_TEXT};
+use lines::lines;
+use measure::{print_head, time, Measure, ROUNDS};
+use std::env;
 use std::hint::black_box;
+use std::process::ExitCode;
 
-fn main() {
+fn main() -> ExitCode {
+    let words: Vec<String> = env::args().skip(1).collect();
+    let words: Vec<&str> = words.iter().map(String::as_str).collect();
+    match words[..] {
+        [] => times(),
+        ["calls", count] => match count.parse() {
+            Ok(count) => lines(Measure::Calls(count)),
+            Err(_) => return usage(),
+        },
+        _ => return usage(),
+    }
+    ExitCode::SUCCESS
+}
+
+fn usage() -> ExitCode {
+    eprintln!("usage: bench [calls COUNT]");
+    ExitCode::from(2)
+}
+
+fn times() {
     println!("Medians of {ROUNDS} alternating rounds. Before each event and drain the table is");
     println!("restored; that copy counts on both sides (769 bytes of the cell, 772 of the table).");
     println!();
     print_head();
-    read_lines();
-    write_lines();
-    fixed_line();
-    for size in [Size::Smallest, Size::Largest] {
-        for jobs in [1, 16, 63] {
-            event_lines(size, jobs);
-        }
-    }
-    for size in [Size::Smallest, Size::Largest] {
-        check_lines(size);
-    }
-    for size in [Size::Smallest, Size::Largest] {
-        drain_lines(size);
-    }
-    run_lines();
+    lines(Measure::Time);
     println!();
     println!("A copy of a plan, 8,340 bytes: {}.", copy_time());
-}
-
-fn read_lines() {
-    let text = full_text(65_536);
-    let mut bytes = vec![0; CELL_SIZE];
-    let reading = read_plan(&text);
-    assert_eq!(reading.number, 0);
-    assert_eq!(rilthoss::read_plan(&mut bytes, &text), answer(0, 0, 0));
-    assert_eq!(bytes, cells::encode(&reading.plan, &Table::EMPTY));
-    measure(
-        "read a plan text of 65,536 bytes",
-        || {
-            black_box(rilthoss::read_plan(&mut bytes, black_box(&text)));
-        },
-        || {
-            black_box(read_plan(black_box(&text)));
-        },
-    );
-}
-
-fn write_lines() {
-    write_line("the smallest plan, 30 bytes", &read_plan(SMALLEST).plan);
-    write_line("the crossing plan, 214 bytes", &read_plan(CROSSING).plan);
-    write_line("the largest plan that fits, 65,536 bytes", &longest_plan());
-}
-
-/// Both sides ask whether the plan is sound and measure its text before they write it.
-fn write_line(what: &str, plan: &Plan) {
-    let bytes = cells::encode(plan, &Table::EMPTY);
-    let mut space = vec![0; MAX_TEXT];
-    let mut found = space.clone();
-    let writing = write_plan(plan, &mut space);
-    assert_eq!(writing.number, 0);
-    let answered = rilthoss::write_plan(&bytes, &mut found);
-    assert_eq!(answered, answer(0, writing.length, 0));
-    assert_eq!(found, space);
-    measure(
-        &format!("write {what}"),
-        || {
-            black_box(rilthoss::write_plan(
-                black_box(&bytes),
-                black_box(&mut found),
-            ));
-        },
-        || {
-            black_box(write_plan(black_box(plan), black_box(&mut space)));
-        },
-    );
-}
-
-/// What a call costs before a question is asked: the empty plan fails the first one at once.
-fn fixed_line() {
-    let mut table = Table::EMPTY;
-    let mut bytes = cells::encode(&Plan::EMPTY, &table);
-    assert_eq!(event::advance(&Plan::EMPTY, &mut table, 1).number, 11);
-    assert_eq!(rilthoss::advance(&mut bytes, 1), answer(11, 0, 0));
-    measure(
-        "advance, refused (11), the empty plan",
-        || {
-            black_box(rilthoss::advance(&mut bytes, black_box(1)));
-        },
-        || {
-            black_box(event::advance(
-                black_box(&Plan::EMPTY),
-                &mut table,
-                black_box(1),
-            ));
-        },
-    );
 }
 
 /// One of several copies that are made in turn, as those of a plan within a call are.
@@ -125,141 +52,4 @@ fn copy_time() -> String {
         black_box(&mut bytes);
         at = next;
     })
-}
-
-/// An event of one job at a cell, and at a plan with its table.
-type Calls = (
-    fn(&mut [u8], u32) -> Answer,
-    fn(&Plan, &mut Table, u32) -> event::Answer,
-);
-
-/// An admitted advance of the last job; one that the last row refuses; and a pull of the first,
-/// behind which all the others close up.
-fn event_lines(size: Size, jobs: usize) {
-    let before = event_table(size, jobs);
-    let plan = event_plan(size, None);
-    let tight = event_plan(size, Some(&before));
-    let last = jobs as u32;
-    let advances: Calls = (rilthoss::advance, event::advance);
-    let pulls: Calls = (rilthoss::pull, event::pull);
-    let plural = if jobs == 1 { "" } else { "s" };
-    let of = format!("{jobs} job{plural}, {size}");
-    event_line(
-        &format!("advance, admitted, {of}"),
-        &plan,
-        &before,
-        last,
-        0,
-        advances,
-    );
-    event_line(
-        &format!("advance, refused (19), {of}"),
-        &tight,
-        &before,
-        last,
-        19,
-        advances,
-    );
-    event_line(
-        &format!("pull of the first, {of}"),
-        &plan,
-        &before,
-        1,
-        0,
-        pulls,
-    );
-}
-
-fn event_line(what: &str, plan: &Plan, before: &Table, job: u32, number: u32, calls: Calls) {
-    let (at_cell, at_table) = calls;
-    let mut table = before.clone();
-    let mut bytes = cells::encode(plan, before);
-    let restored = bytes[TABLE..].to_vec();
-    let expected = at_table(plan, &mut table, job);
-    assert_eq!(expected.number, number);
-    let found = at_cell(&mut bytes, job);
-    assert_eq!(found, answer(expected.number, expected.place, 0));
-    assert_eq!(bytes, cells::encode(plan, &table));
-    measure(
-        what,
-        || {
-            bytes[TABLE..].copy_from_slice(black_box(&restored));
-            black_box(at_cell(&mut bytes, black_box(job)));
-        },
-        || {
-            table.clone_from(black_box(before));
-            black_box(at_table(black_box(plan), &mut table, black_box(job)));
-        },
-    );
-}
-
-fn check_lines(size: Size) {
-    let plan = conforming_plan(size);
-    let bytes = cells::encode(&plan, &Table::EMPTY);
-    assert_eq!(check(&plan).number, 0);
-    assert_eq!(rilthoss::check(&bytes), answer(0, 0, 0));
-    measure(
-        &format!("upstream check, {size}"),
-        || {
-            black_box(rilthoss::check(black_box(&bytes)));
-        },
-        || {
-            black_box(check(black_box(&plan)));
-        },
-    );
-}
-
-fn drain_lines(size: Size) {
-    let plan = conforming_plan(size);
-    let before = first_stages(&plan, 64);
-    let mut table = before.clone();
-    let mut bytes = cells::encode(&plan, &before);
-    let restored = bytes[TABLE..].to_vec();
-    let drained = drain(&plan, &mut table, u32::MAX);
-    assert_eq!(drained.number, 0);
-    let found = rilthoss::drain(&mut bytes, u32::MAX);
-    assert_eq!(found, answer(0, drained.moves, 0));
-    assert_eq!(bytes, cells::encode(&plan, &Table::EMPTY));
-    measure(
-        &format!("drain of 64 jobs, {} moves, {size}", drained.moves),
-        || {
-            bytes[TABLE..].copy_from_slice(black_box(&restored));
-            black_box(rilthoss::drain(&mut bytes, u32::MAX));
-        },
-        || {
-            table.clone_from(black_box(&before));
-            black_box(drain(black_box(&plan), &mut table, u32::MAX));
-        },
-    );
-}
-
-fn run_lines() {
-    let few = b"E\nL\t1\t1\nL\t2\t2\nA\t1\nA\t2\nU\t1\nL\t1\t3\n".to_vec();
-    let text = full_text(65_536 - few.len());
-    run_line("the plan fills it, 6 events", &[text, few].concat());
-    let mut many = b"C\t1\t1\t0\nR\t1\t2\nT\t1\t2\nS\t1\t1\t1\t1\nS\t1\t2\t1\t1\nE\n".to_vec();
-    let turn = b"L\t1\t1\nA\t1\nU\t1\n";
-    let turns = (65_536 - many.len()) / turn.len();
-    many.extend(turn.repeat(turns));
-    let left = 65_536 - many.len();
-    many.extend(b"\n".repeat(left));
-    run_line(&format!("a small plan, {} events", turns * 3), &many);
-}
-
-fn run_line(what: &str, input: &[u8]) {
-    assert_eq!(input.len(), 65_536);
-    let mut output = vec![0; MAX_OUTPUT];
-    let printed = run(input);
-    assert!(printed.starts_with(b"P\t0\t0\n"));
-    let length = rilthoss::run(input, &mut output);
-    assert_eq!(output[..length], printed);
-    measure(
-        &format!("cellmoves, 65,536 bytes: {what}"),
-        || {
-            black_box(rilthoss::run(black_box(input), &mut output));
-        },
-        || {
-            black_box(run(black_box(input)));
-        },
-    );
 }

@@ -1,4 +1,5 @@
-//! Time of one call on each side, as the median of alternating rounds.
+//! What one call costs on each side: its time, as the median of alternating rounds, or the calls alone,
+//! for callgrind to count their instructions.
 
 use std::time::{Duration, Instant};
 
@@ -7,13 +8,45 @@ pub const ROUNDS: usize = 31;
 /// A round lasts at least this long.
 const ROUND: Duration = Duration::from_millis(8);
 
+#[derive(Clone, Copy)]
+pub enum Measure {
+    Time,
+    /// So many calls on each side.
+    Calls(u32),
+}
+
+impl Measure {
+    /// A line of the benchmark: both sides are measured and the line is printed.
+    pub fn line(self, what: &str, library: impl FnMut(), reference: impl FnMut()) {
+        match self {
+            Measure::Time => time_line(what, library, reference),
+            Measure::Calls(calls) => calls_line(what, calls, library, reference),
+        }
+    }
+}
+
+/// What is counted goes to callgrind's file, so only the name is printed.
+fn calls_line(what: &str, calls: u32, mut library: impl FnMut(), mut reference: impl FnMut()) {
+    println!("{what}");
+    counted(calls, &mut library);
+    counted(calls, &mut reference);
+}
+
+/// `harness/instructions` has callgrind collect within this function, by its name, and write down the
+/// count each time it ends.
+#[inline(never)]
+fn counted(calls: u32, call: &mut dyn FnMut()) {
+    for _ in 0..calls {
+        call();
+    }
+}
+
 pub fn print_head() {
     println!("| what | library | Rust | library / Rust |");
     println!("|---|---:|---:|---:|");
 }
 
-/// Measures both sides and prints their line.
-pub fn measure(what: &str, mut library: impl FnMut(), mut reference: impl FnMut()) {
+fn time_line(what: &str, mut library: impl FnMut(), mut reference: impl FnMut()) {
     let library_calls = calls(&mut library);
     let reference_calls = calls(&mut reference);
     let mut library_times = Vec::new();
