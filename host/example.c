@@ -76,6 +76,18 @@ static void check(void)
     cell[RILTHOSS_OFFSET_STAGES + RILTHOSS_STAGE_SIZE] = 0;
 }
 
+/* A text whose second line is refused: the line is a part of it. */
+static void refuse(void)
+{
+    static const char text[] = "C\t1\t1\t0\nR\t1\t256\n";
+    uint64_t read = rilthoss_read_plan(cell, sizeof cell, (const uint8_t *)text, strlen(text));
+    tell("a bad plan", read, "line", rilthoss_line(read));
+    if (rilthoss_number(read) == RILTHOSS_OUT_OF_RANGE) {
+        uint64_t shown = rilthoss_shown((const uint8_t *)text, strlen(text));
+        printf("out of range in  %.*s\n", (int)(rilthoss_end(shown) - rilthoss_begin(shown)), text + rilthoss_begin(shown));
+    }
+}
+
 int main(int argc, char **argv)
 {
     FILE *file = argc == 2 ? fopen(argv[1], "rb") : NULL;
@@ -103,5 +115,6 @@ int main(int argc, char **argv)
     tell_drain("drain by 1", rilthoss_drain(cell, sizeof cell, 1));
     tell_drain("drain", rilthoss_drain(cell, sizeof cell, UINT32_MAX));
     tell_event("too short", rilthoss_load(cell, sizeof cell - 1, 7, 1));
+    refuse();
     return 0;
 }

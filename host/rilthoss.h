@@ -117,6 +117,12 @@ static inline uint32_t rilthoss_moves(uint64_t answer) { return (uint32_t)(answe
  * none, for 7 the one after the last. A refused text puts the empty plan there. */
 uint64_t rilthoss_read_plan(uint8_t *cell, size_t cell_length, const uint8_t *text, size_t text_length);
 
+/* Of a text that rilthoss_read_plan refuses, the line that the refusal is about, as a part of the caller's own text: it begins at rilthoss_begin
+ * and ends before rilthoss_end, without its LF. An accepted text has none, and so has one refused by 1 or 7: both ends are 0. */
+uint64_t rilthoss_shown(const uint8_t *text, size_t text_length);
+static inline uint32_t rilthoss_begin(uint64_t shown) { return (uint32_t)(shown & 0xffffffff); }
+static inline uint32_t rilthoss_end(uint64_t shown) { return (uint32_t)(shown >> 32); }
+
 /* Writes the cell's plan as text, in its one spelling: the records in order of their sections and keys, no leading zeros, no comments, no empty
  * lines. Number: 0 written, 11, or 9 if the text is longer than the space or than RILTHOSS_MAX_TEXT bytes; length: that of the text. A refusal
  * changes no byte; otherwise the space begins with the text and is unchanged after it. The spelling of a text that was accepted is never longer

@@ -1,13 +1,16 @@
 // The table of active jobs with its methods: what a host calls. Each hands its job list to the function that does the work.
 ghost use mathlib.Core.Path.{_≡_};
 ghost use Rattle.events.specs.Events.{agreement};
+ghost use Rattle.plan_bytes.specs.Over.{planOver};
 ghost use Rattle.admission.specs.Table.{emptyTable, outcome, drain};
 use events::Answer;
 use events::End;
 use events::Event;
 use events::JobList;
+use joblists::changed;
+use joblists::laid;
 use model::Job;
-use model::Plan;
+use plan_bytes::Frame;
 
 // Document 01's table. Any list may stand in it: whether it agrees with a plan is asked, not assumed.
 pub struct Table {
@@ -45,84 +48,60 @@ impl Table {
     }
 
     // Does this table agree with the plan: 0, 11 or 12.
-    pub fn agreement(self, p: Plan) -> Answer
-        ensures { λ r. ⌜ r ≡ agreement p (self .list) ⌝ }
+    pub fn agreement(self, frame: Frame, stages: &[u8]) -> Answer
+        ensures { λ r. ⌜ r ≡ agreement (planOver frame (now (stages .entry))) (self .list) ⌝ }
     {
         let list = self.list;
-        agreement::agree(p, list).answer
+        let jobs = laid(list);
+        agreement::agree(frame, stages, list.count, &jobs).answer
     }
 
-    // The events. A refusal hands back the same table.
-    pub fn load(self, p: Plan, job: u32, kind: u32) -> Outcome
-        ensures { λ r. ⌜ r ≡ outcome p self (Event.Load job kind) ⌝ }
+    // Any event. A refusal hands back the same table.
+    pub fn handle(self, frame: Frame, stages: &[u8], event: Event) -> Outcome
+        ensures { λ r. ⌜ r ≡ outcome (planOver frame (now (stages .entry))) self event ⌝ }
     {
         let list = self.list;
-        let loaded = admit::load(list, p, job, kind);
-        let answer = loaded.answer;
-        let list = loaded.list;
+        let jobs = laid(list);
+        let judgement = admit::judge(frame, stages, list.count, &jobs, event);
+        let led = changed(list, judgement);
+        let answer = led.answer;
+        let list = led.list;
         Outcome {
             answer,
             table: Table { list },
         }
     }
 
-    pub fn advance(self, p: Plan, job: u32) -> Outcome
-        ensures { λ r. ⌜ r ≡ outcome p self (Event.Advance job) ⌝ }
+    pub fn load(self, frame: Frame, stages: &[u8], job: u32, kind: u32) -> Outcome
+        ensures { λ r. ⌜ r ≡ outcome (planOver frame (now (stages .entry))) self (Event.Load job kind) ⌝ }
     {
-        let list = self.list;
-        let advanced = admit::advance(list, p, job);
-        let answer = advanced.answer;
-        let list = advanced.list;
-        Outcome {
-            answer,
-            table: Table { list },
-        }
+        self.handle(frame, stages, Event::Load { job, kind })
     }
 
-    pub fn unload(self, p: Plan, job: u32) -> Outcome
-        ensures { λ r. ⌜ r ≡ outcome p self (Event.Unload job) ⌝ }
+    pub fn advance(self, frame: Frame, stages: &[u8], job: u32) -> Outcome
+        ensures { λ r. ⌜ r ≡ outcome (planOver frame (now (stages .entry))) self (Event.Advance job) ⌝ }
     {
-        let list = self.list;
-        let unloaded = admit::unload(list, p, job);
-        let answer = unloaded.answer;
-        let list = unloaded.list;
-        Outcome {
-            answer,
-            table: Table { list },
-        }
+        self.handle(frame, stages, Event::Advance(job))
     }
 
-    pub fn pull(self, p: Plan, job: u32) -> Outcome
-        ensures { λ r. ⌜ r ≡ outcome p self (Event.Pull job) ⌝ }
+    pub fn unload(self, frame: Frame, stages: &[u8], job: u32) -> Outcome
+        ensures { λ r. ⌜ r ≡ outcome (planOver frame (now (stages .entry))) self (Event.Unload job) ⌝ }
     {
-        let list = self.list;
-        let pulled = admit::pull(list, p, job);
-        let answer = pulled.answer;
-        let list = pulled.list;
-        Outcome {
-            answer,
-            table: Table { list },
-        }
+        self.handle(frame, stages, Event::Unload(job))
     }
 
-    // Any event, by the method that it names.
-    pub fn handle(self, p: Plan, event: Event) -> Outcome
-        ensures { λ r. ⌜ r ≡ outcome p self event ⌝ }
+    pub fn pull(self, frame: Frame, stages: &[u8], job: u32) -> Outcome
+        ensures { λ r. ⌜ r ≡ outcome (planOver frame (now (stages .entry))) self (Event.Pull job) ⌝ }
     {
-        match event {
-            Event::Load { job, kind } => self.load(p, job, kind),
-            Event::Advance(job) => self.advance(p, job),
-            Event::Unload(job) => self.unload(p, job),
-            Event::Pull(job) => self.pull(p, job),
-        }
+        self.handle(frame, stages, Event::Pull(job))
     }
 
     // Moves of the earliest loaded job for which one is admitted, as long as there is budget.
-    pub fn drain(self, p: Plan, budget: u32) -> Drained
-        ensures { λ r. ⌜ r ≡ drain p self budget ⌝ }
+    pub fn drain(self, frame: Frame, stages: &[u8], budget: u32) -> Drained
+        ensures { λ r. ⌜ r ≡ drain (planOver frame (now (stages .entry))) self budget ⌝ }
     {
         let list = self.list;
-        let drained = draining::drain(list, p, budget);
+        let drained = draining::drain(list, frame, stages, budget);
         let end = drained.end;
         let list = drained.list;
         Drained {

@@ -10,7 +10,9 @@ use Rattle.events.specs.Events.{isAdmitted, jobsAfter, answer, listOutcome}
 use Rattle.events.specs.declared.JobList.{JobList}
 use Rattle.events.specs.declared.Event.{Event}
 use Rattle.events.specs.declared.Answer.the-variants.{Admitted}
-use Rattle.parts.specs.Parts.{stageMet, withoutJob, refusal, removalFrom}
+use Rattle.parts.specs.Parts.{stageMet, withoutJob}
+use Rattle.parts.specs.JobNumbers.{applied, removalFrom}
+use Rattle.parts.specs.declared.Change.the-variants.{Nothing, Removed}
 use Rattle.parts.specs.declared.StageAsked.{StageAsked}
 use Rattle.parts.proofs.ListChanges.{removed-list}
 use Rattle.parts.proofs.QuestionParts.{is-admitted, admitted-outcome}
@@ -25,12 +27,12 @@ module _ {p : Plan} {t : JobList} {n : ℕ} (wanted : StageAsked) {a : Asked} (a
 
   pub removal-outcome : jobsAfter p (jobsOf t) event ≡ removed n (jobsOf t)
       → (Stands p t n → stageMet p wanted (jobOf n (jobsOf t)) ≡ true → answer p t event ≡ Admitted)
-      → removalFrom t (a .answer) (a .found .at) ≡ listOutcome p t event
+      → applied t (removalFrom (a .answer) (a .found .at)) ≡ listOutcome p t event
   unfolding removalFrom
   removal-outcome leads goes = go (isAdmitted (a .answer)) refl
     where
       go : (b : Bool) → isAdmitted (a .answer) ≡ b
-          → cond b (record { answer = a .answer; list = withoutJob t (a .found .at) }) (refusal (a .answer) t) ≡ listOutcome p t event
+          → applied t (cond b (record { answer = a .answer; change = Removed (a .found .at) }) (record { answer = a .answer; change = Nothing })) ≡ listOutcome p t event
       go true met =
           let s = stands asked met in
           let says = goes s (right-stage asked met) ∙ sym (is-admitted (a .answer) met) in

@@ -1,39 +1,27 @@
-// The events on a job list: the questions in their order, and the list afterwards as a new value.
+// The events at a job list that is lent: the questions in their order, and what an admitted event does to the list.
 ghost use mathlib.Core.Path.{_≡_};
-ghost use Rattle.model.specs.Plan.{noStage};
 ghost use Rattle.events.specs.Events.{listOutcome};
-ghost use Rattle.parts.specs.Parts.{refusal, removalFrom};
+ghost use Rattle.plan_bytes.specs.Over.{planOver};
+ghost use Rattle.parts.specs.JobNumbers.{listOver, applied, removalFrom};
 ghost use Rattle.admit.specs.ActiveAsked.{ActiveAsked};
 use agreement::agree;
 use events::Answer;
 use events::Event;
-use events::JobList;
-use events::ListOutcome;
 use joblists::look_up;
-use joblists::with_job;
-use joblists::with_replaced;
-use joblists::without_job;
 use model::Job;
-use model::Plan;
-use model::Stage;
 use parts::Agreement;
+use parts::Change;
 use parts::Found;
+use parts::Judgement;
 use parts::StageAsked;
+use plan_bytes::Frame;
 use questions::active_answer;
 use questions::load_answer;
 use questions::stage_met;
+use stages::NO_STAGE;
 use stages::length_of;
 use stages::stage_index;
 use sums::kept_after;
-
-fn no_stage() -> Stage
-    ensures { λ r. ⌜ r ≡ noStage ⌝ }
-{
-    Stage {
-        demand: [0; 32],
-        weight: [0; 32],
-    }
-}
 
 // Questions 11 to 14 and 17 of an event whose job must be active, with the agreement and the job that it names.
 pub(crate) struct Asked {
@@ -42,75 +30,92 @@ pub(crate) struct Asked {
     pub found: Found,
 }
 
-fn ask_active(p: Plan, t: JobList, job: u32, wanted: StageAsked) -> Asked
-    ensures { λ r. ⌜ ActiveAsked p t job wanted r ⌝ }
+fn ask_active<'a>(
+    frame: Frame,
+    stages: &'a [u8],
+    count: usize,
+    jobs: &'a [u32; 192],
+    job: u32,
+    wanted: StageAsked,
+) -> Asked
+    ensures { λ r. ⌜ ActiveAsked (planOver frame (now (stages .entry))) (listOver count (now (jobs .entry))) job wanted r ⌝ }
 {
-    let agreement = agree(p, t);
+    let agreement = agree(frame, stages, count, jobs);
     let first = agreement.answer;
-    let found = look_up(t, job);
+    let found = look_up(count, jobs, job);
     let j = found.job;
-    let lengths = p.lengths;
-    let met = stage_met(j.stage, length_of(&lengths, j.kind), wanted);
+    let met = stage_met(j.stage, length_of(&frame.lengths, j.kind), wanted);
     Asked {
-        answer: active_answer(first, t.count, found.at, job, met),
+        answer: active_answer(first, count, found.at, job, met),
         agreement,
         found,
     }
 }
 
-fn refused(answer: Answer, t: JobList) -> ListOutcome
-    ensures { λ r. ⌜ r ≡ refusal answer t ⌝ }
+fn refused(answer: Answer) -> Judgement
+    ensures { λ r. ⌜ r ≡ record { answer = answer; change = Change.Nothing } ⌝ }
 {
-    ListOutcome { answer, list: t }
+    Judgement {
+        answer,
+        change: Change::Nothing,
+    }
 }
 
-pub fn load(t: JobList, p: Plan, job: u32, kind: u32) -> ListOutcome
-    ensures { λ r. ⌜ r ≡ listOutcome p t (Event.Load job kind) ⌝ }
+pub fn load<'a>(
+    frame: Frame,
+    stages: &'a [u8],
+    count: usize,
+    jobs: &'a [u32; 192],
+    job: u32,
+    kind: u32,
+) -> Judgement
+    ensures { λ r. ⌜ applied (listOver count (now (jobs .entry))) r ≡ listOutcome (planOver frame (now (stages .entry))) (listOver count (now (jobs .entry))) (Event.Load job kind) ⌝ }
 {
-    let agreement = agree(p, t);
+    let agreement = agree(frame, stages, count, jobs);
     let agreed = agreement.answer;
-    let found = look_up(t, job);
-    let first = load_answer(agreed, t.count, found.at, p.types as u32, job, kind);
+    let found = look_up(count, jobs, job);
+    let first = load_answer(agreed, count, found.at, frame.types as u32, job, kind);
     let Answer::Admitted = first else {
-        return refused(first, t);
+        return refused(first);
     };
-    let lengths = p.lengths;
-    let to = stage_index(&lengths, kind, 1);
-    let new = p.stages[to];
-    let last = kept_after(agreement.sums, no_stage(), new, agreement.ceilings);
+    let to = stage_index(&frame.lengths, kind, 1);
+    let last = kept_after(agreement.sums, stages, NO_STAGE, to, agreement.ceilings);
     let Answer::Admitted = last else {
-        return refused(last, t);
+        return refused(last);
     };
     let next = Job {
         number: job,
         kind,
         stage: 1,
     };
-    ListOutcome {
+    Judgement {
         answer: last,
-        list: with_job(t, next),
+        change: Change::Added(next),
     }
 }
 
-pub fn advance(t: JobList, p: Plan, job: u32) -> ListOutcome
-    ensures { λ r. ⌜ r ≡ listOutcome p t (Event.Advance job) ⌝ }
+pub fn advance<'a>(
+    frame: Frame,
+    stages: &'a [u8],
+    count: usize,
+    jobs: &'a [u32; 192],
+    job: u32,
+) -> Judgement
+    ensures { λ r. ⌜ applied (listOver count (now (jobs .entry))) r ≡ listOutcome (planOver frame (now (stages .entry))) (listOver count (now (jobs .entry))) (Event.Advance job) ⌝ }
 {
-    let asked = ask_active(p, t, job, StageAsked::Next);
+    let asked = ask_active(frame, stages, count, jobs, job, StageAsked::Next);
     let first = asked.answer;
     let Answer::Admitted = first else {
-        return refused(first, t);
+        return refused(first);
     };
     let found = asked.found;
     let j = found.job;
-    let lengths = p.lengths;
-    let from = stage_index(&lengths, j.kind, j.stage);
-    let old = p.stages[from];
+    let from = stage_index(&frame.lengths, j.kind, j.stage);
     let to = from + 1;
-    let new = p.stages[to];
     let agreement = asked.agreement;
-    let last = kept_after(agreement.sums, old, new, agreement.ceilings);
+    let last = kept_after(agreement.sums, stages, from, to, agreement.ceilings);
     let Answer::Admitted = last else {
-        return refused(last, t);
+        return refused(last);
     };
     let stage = j.stage + 1;
     let next = Job {
@@ -118,39 +123,72 @@ pub fn advance(t: JobList, p: Plan, job: u32) -> ListOutcome
         kind: j.kind,
         stage,
     };
-    ListOutcome {
+    Judgement {
         answer: last,
-        list: with_replaced(t, found.at, next),
+        change: Change::Moved {
+            at: found.at,
+            job: next,
+        },
     }
 }
 
 // The job at this position goes, where the questions were met. It only gives back, so 18 and 19 need not be asked.
-fn removal(t: JobList, first: Answer, at: usize) -> ListOutcome
-    ensures { λ r. ⌜ r ≡ removalFrom t first at ⌝ }
+fn removal(first: Answer, at: usize) -> Judgement
+    ensures { λ r. ⌜ r ≡ removalFrom first at ⌝ }
 {
     let Answer::Admitted = first else {
-        return refused(first, t);
+        return refused(first);
     };
-    ListOutcome {
+    Judgement {
         answer: first,
-        list: without_job(t, at),
+        change: Change::Removed(at),
     }
 }
 
-pub fn unload(t: JobList, p: Plan, job: u32) -> ListOutcome
-    ensures { λ r. ⌜ r ≡ listOutcome p t (Event.Unload job) ⌝ }
+pub fn unload<'a>(
+    frame: Frame,
+    stages: &'a [u8],
+    count: usize,
+    jobs: &'a [u32; 192],
+    job: u32,
+) -> Judgement
+    ensures { λ r. ⌜ applied (listOver count (now (jobs .entry))) r ≡ listOutcome (planOver frame (now (stages .entry))) (listOver count (now (jobs .entry))) (Event.Unload job) ⌝ }
 {
-    let asked = ask_active(p, t, job, StageAsked::Last);
+    let asked = ask_active(frame, stages, count, jobs, job, StageAsked::Last);
     let first = asked.answer;
     let found = asked.found;
-    removal(t, first, found.at)
+    removal(first, found.at)
 }
 
-pub fn pull(t: JobList, p: Plan, job: u32) -> ListOutcome
-    ensures { λ r. ⌜ r ≡ listOutcome p t (Event.Pull job) ⌝ }
+pub fn pull<'a>(
+    frame: Frame,
+    stages: &'a [u8],
+    count: usize,
+    jobs: &'a [u32; 192],
+    job: u32,
+) -> Judgement
+    ensures { λ r. ⌜ applied (listOver count (now (jobs .entry))) r ≡ listOutcome (planOver frame (now (stages .entry))) (listOver count (now (jobs .entry))) (Event.Pull job) ⌝ }
 {
-    let asked = ask_active(p, t, job, StageAsked::Any);
+    let asked = ask_active(frame, stages, count, jobs, job, StageAsked::Any);
     let first = asked.answer;
     let found = asked.found;
-    removal(t, first, found.at)
+    removal(first, found.at)
+}
+
+// Any event.
+pub fn judge<'a>(
+    frame: Frame,
+    stages: &'a [u8],
+    count: usize,
+    jobs: &'a [u32; 192],
+    event: Event,
+) -> Judgement
+    ensures { λ r. ⌜ applied (listOver count (now (jobs .entry))) r ≡ listOutcome (planOver frame (now (stages .entry))) (listOver count (now (jobs .entry))) event ⌝ }
+{
+    match event {
+        Event::Load { job, kind } => load(frame, stages, count, jobs, job, kind),
+        Event::Advance(job) => advance(frame, stages, count, jobs, job),
+        Event::Unload(job) => unload(frame, stages, count, jobs, job),
+        Event::Pull(job) => pull(frame, stages, count, jobs, job),
+    }
 }

@@ -3,21 +3,22 @@ ghost use mathlib.Core.Path.{_≡_};
 ghost use mathlib.Core.Bool.{not};
 ghost use Prim.Native.Nat.{ℕ, _≤_};
 ghost use lib.Dec.{eqb};
-ghost use lib.ListN.{drop};
 ghost use Rattle.model.specs.Numbers.{inRange, each};
-ghost use Rattle.model.specs.Plan.{noStage};
+ghost use Rattle.model.specs.Soundness.{zeroBeyond};
 ghost use Rattle.model.specs.Jobs.{numbers, distinct, fits};
-ghost use Rattle.events.specs.JobList.{jobsOf, isNoJob};
+ghost use Rattle.events.specs.JobList.{jobsOf};
+ghost use Rattle.plan_bytes.specs.Over.{planOver};
 ghost use Rattle.parts.specs.Parts.{wellFormed, refusedWith, agreed};
+ghost use Rattle.parts.specs.JobNumbers.{jobsLaid, listOver};
 use events::Answer;
-use events::JobList;
+use joblists::job_at;
 use model::Job;
-use model::Plan;
-use model::Stage;
 use parts::Agreement;
 use parts::Ceilings;
 use parts::Sums;
+use plan_bytes::Frame;
 use soundness::is_sound;
+use stages::NO_STAGE;
 use stages::length_of;
 use sums::kept_after;
 use sums::sums_of;
@@ -53,14 +54,13 @@ fn all_distinct(ns: &[u32]) -> bool
     true
 }
 
-fn numbers_of(t: JobList) -> [u32; 64]
-    ensures { λ r. ⌜ r ≡ numbers (t .jobs) ⌝ }
+fn numbers_of(jobs: &[u32; 192]) -> [u32; 64]
+    ensures { λ r. ⌜ r ≡ numbers (jobsLaid (now (jobs .entry))) ⌝ }
 {
     let mut ns = [0; 64];
     let mut i = 0;
     while i < 64 {
-        let j = t.jobs[i];
-        ns[i] = j.number;
+        ns[i] = jobs[i * 3];
         i += 1;
     }
     ns
@@ -84,26 +84,13 @@ fn job_fits(j: Job, lengths: &[u8; 16], types: u32) -> bool
     in_range(j.stage, length_of(lengths, j.kind))
 }
 
-fn is_none(j: Job) -> bool
-    ensures { λ r. ⌜ r ≡ isNoJob j ⌝ }
+fn jobs_fit<'a>(count: usize, jobs: &'a [u32; 192], lengths: &'a [u8; 16], types: u32) -> bool
+    requires { ⌜ count ≤ 64 ⌝ }
+    ensures { λ r. ⌜ r ≡ each (fits types (now (lengths .entry))) (jobsOf (listOver count (now (jobs .entry)))) ⌝ }
 {
-    if j.number != 0 {
-        return false;
-    }
-    if j.kind != 0 {
-        return false;
-    }
-    j.stage == 0
-}
-
-fn jobs_fit(t: JobList, lengths: &[u8; 16], types: u32) -> bool
-    requires { ⌜ t .count ≤ 64 ⌝ }
-    ensures { λ r. ⌜ r ≡ each (fits types (now (lengths .entry))) (jobsOf t) ⌝ }
-{
-    let count = t.count;
     let mut i = 0;
     while i < count {
-        let j = t.jobs[i];
+        let j = job_at(jobs, i);
         if !job_fits(j, lengths, types) {
             return false;
         }
@@ -112,36 +99,35 @@ fn jobs_fit(t: JobList, lengths: &[u8; 16], types: u32) -> bool
     true
 }
 
-// Only zeros beyond the jobs.
-fn none_beyond(t: JobList) -> bool
-    ensures { λ r. ⌜ r ≡ each isNoJob (drop (t .count) (t .jobs)) ⌝ }
+// Only zeros beyond the first n: again a flag. The greatest kept instead would be twice the work, as baseline x86-64 has no maximum of 32 bits.
+fn zero_beyond(xs: &[u32], n: usize) -> bool
+    ensures { λ r. ⌜ r ≡ zeroBeyond n (now (xs .entry)) ⌝ }
 {
-    let mut i = t.count;
-    while i < 64 {
-        let j = t.jobs[i];
-        if !is_none(j) {
-            return false;
+    let mut ok = true;
+    let mut i = n;
+    while i < xs.len() {
+        if xs[i] != 0 {
+            ok = false;
         }
         i += 1;
     }
-    true
+    ok
 }
 
 // What question 12 asks of the jobs one by one, of their numbers and of what lies beyond them.
-fn well_formed(t: JobList, lengths: &[u8; 16], types: u32) -> bool
-    ensures { λ r. ⌜ r ≡ wellFormed types (now (lengths .entry)) t ⌝ }
+fn well_formed<'a>(count: usize, jobs: &'a [u32; 192], lengths: &'a [u8; 16], types: u32) -> bool
+    ensures { λ r. ⌜ r ≡ wellFormed types (now (lengths .entry)) (listOver count (now (jobs .entry))) ⌝ }
 {
-    let count = t.count;
     if 64 < count {
         return false;
     }
-    if !none_beyond(t) {
+    if !zero_beyond(jobs, count * 3) {
         return false;
     }
-    if !jobs_fit(t, lengths, types) {
+    if !jobs_fit(count, jobs, lengths, types) {
         return false;
     }
-    let numbers = numbers_of(t);
+    let numbers = numbers_of(jobs);
     all_distinct(&numbers[..count])
 }
 
@@ -164,15 +150,6 @@ fn widened(xs: [u8; 32]) -> [u16; 32]
     ys
 }
 
-fn no_stage() -> Stage
-    ensures { λ r. ⌜ r ≡ noStage ⌝ }
-{
-    Stage {
-        demand: [0; 32],
-        weight: [0; 32],
-    }
-}
-
 fn refused(answer: Answer) -> Agreement
     ensures { λ r. ⌜ r ≡ refusedWith answer ⌝ }
 {
@@ -189,25 +166,25 @@ fn refused(answer: Answer) -> Agreement
     }
 }
 
-// Questions 11 and 12. The ceilings are copied out of the plan here, for all later questions.
-pub fn agree(p: Plan, t: JobList) -> Agreement
-    ensures { λ r. ⌜ r ≡ agreed p t ⌝ }
+// Questions 11 and 12. The ceilings are copied out of the frame here, for all later questions.
+pub fn agree<'a>(frame: Frame, stages: &'a [u8], count: usize, jobs: &'a [u32; 192]) -> Agreement
+    ensures { λ r. ⌜ r ≡ agreed (planOver frame (now (stages .entry))) (listOver count (now (jobs .entry))) ⌝ }
 {
-    if !is_sound(p) {
+    if !is_sound(frame, stages) {
         return refused(Answer::UnsoundPlan);
     }
-    let lengths = p.lengths;
-    if !well_formed(t, &lengths, p.types as u32) {
+    let lengths = frame.lengths;
+    if !well_formed(count, jobs, &lengths, frame.types as u32) {
         return refused(Answer::Disagreement);
     }
-    let sums = sums_of(p, t);
-    let capacity = p.capacity;
-    let bound = p.bound;
+    let sums = sums_of(frame, stages, count, jobs);
+    let capacity = frame.capacity;
+    let bound = frame.bound;
     let ceilings = Ceilings {
         capacity: widened(capacity),
         bound,
     };
-    let kept = kept_after(sums, no_stage(), no_stage(), ceilings);
+    let kept = kept_after(sums, stages, NO_STAGE, NO_STAGE, ceilings);
     let Answer::Admitted = kept else {
         return refused(Answer::Disagreement);
     };

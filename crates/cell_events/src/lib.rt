@@ -1,48 +1,50 @@
-// The events and the drain at a cell in the bytes of a host. Its plan and its list are read from there and asked at each call.
+// The events and the drain at a cell in the bytes of a host. Its frame and its jobs are read from there, its stages are lent where they lie, and all of
+// it is asked at each call.
 ghost use mathlib.Core.Path.{_≡_};
-ghost use Prim.Native.Nat.{_≤_};
 ghost use Rattle.cell_layout.specs.HostAnswers.{packed, eventAnswer, eventCell, drainAnswer, drainCell};
 use admission::Table;
-use cell_reads::CELL;
+use admit::judge;
+use cell_layout::CELL;
+use cell_layout::JOB_COUNT;
+use cell_layout::STAGES;
+use cell_reads::count_in;
+use cell_reads::frame_in;
+use cell_reads::jobs_in;
 use cell_reads::list_in;
-use cell_reads::plan_in;
 use cell_writes::put_list;
 use events::Answer;
 use events::Event;
+use joblists::changed;
 use numbers::answer_number;
 use numbers::answer_place;
 use numbers::end_number;
-
-fn u32_to_u64(x: u32) -> u64
-    ensures { λ r. ⌜ (r ≡ x) × (r ≤ 4294967295) ⌝ }
-{
-    x as u64
-}
 
 // A number with one place.
 pub fn pack(number: u32, place: u32) -> u64
     ensures { λ r. ⌜ r ≡ packed number place 0 ⌝ }
 {
-    u32_to_u64(number) + 4294967296 * u32_to_u64(place)
+    number as u64 + 4294967296 * (place as u64)
 }
 
-// An event at the cell; an admitted one writes the list that it leads to.
+// An event at the cell. Only an admitted one reads the list as a whole, and writes the one that it leads to.
 pub fn event_at(cell: &mut [u8], event: Event) -> u64
     ensures { λ r. ⌜ (r ≡ eventAnswer (now (cell .entry)) event) × (now (cell .exit) ≡ eventCell (now (cell .entry)) event) ⌝ }
 {
     if cell.len() < CELL {
         return 9;
     }
-    let list = list_in(cell);
-    let table = Table { list };
-    let outcome = table.handle(plan_in(cell), event);
-    let answer = outcome.answer;
-    let after = outcome.table;
+    let frame = frame_in(cell);
+    let count = count_in(cell);
+    let jobs = jobs_in(cell);
+    let judgement = judge(frame, &cell[STAGES..JOB_COUNT], count, &jobs, event);
+    let answer = judgement.answer;
     let Answer::Admitted = answer else {
         let number = answer_number(answer);
         let place = answer_place(answer);
         return pack(number, place);
     };
+    let list = list_in(cell);
+    let after = changed(list, judgement);
     put_list(after.list, cell);
     0
 }
@@ -56,7 +58,8 @@ pub fn drain_at(cell: &mut [u8], budget: u32) -> u64
     }
     let list = list_in(cell);
     let table = Table { list };
-    let drained = table.drain(plan_in(cell), budget);
+    let frame = frame_in(cell);
+    let drained = table.drain(frame, &cell[STAGES..JOB_COUNT], budget);
     let end = drained.end;
     let left = drained.table;
     let number = end_number(end);

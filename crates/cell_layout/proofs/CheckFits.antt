@@ -1,7 +1,7 @@
 -- The number and the second place of a check fit 16 bits.
 use Prim.Native.Nat.{ℕ, _≤_}
 use native.Mathlib.Omega.{arith}
-use mathlib.Core.Logic.{_⊎_, inl, inr}
+use mathlib.Core.Logic.{inl, inr}
 use mathlib.Core.Path.{_≡_, ap}
 use Rattle.model.specs.Questions.{FirstFailure}
 use Rattle.model.specs.Upstream.{checkNumbers, CheckSays, checkConditions, check}

@@ -1,32 +1,27 @@
 -- Entries that lie one behind the other are read and written one by one: each more is the bytes behind those before it. Bytes stored one
 -- after the other lie there as if laid at once.
-use Prim.Native.Nat.{ℕ, zero, suc, _+_, _-_, _*_, _≤_, _<_}
+use Prim.Native.Nat.{ℕ, zero, suc, _+_, _*_, _≤_, _<_}
 use native.Mathlib.Nat.{mul-zero, mul-suc, add-comm}
 use native.Mathlib.Omega.{arith}
 use native.Mathlib.Numerals.{add-one}
 use mathlib.Core.List.{List, [], _∷_, _++_, append-assoc, append-nil}
 use mathlib.Core.Path.{_≡_, refl, sym, ap, _∙_}
 use lib.ListN.{length, take, drop, getD, set, length-append, length-drop, drop-of-length-le}
-use lib.Seq.{drop-drop, drop-cons, take-take, take-length, length-take-le, sets, sets-eq, take-all}
+use lib.Seq.{drop-drop, drop-cons, take-take, take-length, sets, sets-eq, take-all}
 use Rattle.moves_text.specs.Space.{overlaidAt}
 use Rattle.moves_text.proofs.Overlays.{none-laid, laid-then, overlaid-at-length}
-use Rattle.cell_layout.specs.Layout.{numberOf, entriesIn, joined, part}
+use Rattle.plan_bytes.specs.Over.{part, entriesIn}
+use Rattle.plan_bytes.proofs.Laid.{cut-later}
+use Rattle.cell_layout.specs.Layout.{numberOf, joined}
 
 module _ {A : Type 0} where
-  entries-suc : (read : List ℕ → A) (size n : ℕ) (bytes : List ℕ)
+  pub entries-more : (read : List ℕ → A) (size n : ℕ) (bytes : List ℕ)
       → entriesIn read size (suc n) bytes ≡ entriesIn read size n bytes ++ read (part (size * n) size bytes) ∷ []
-  entries-suc read size zero bytes = ap (λ k. read (part k size bytes) ∷ []) (sym (mul-zero size))
-  entries-suc read size (suc n) bytes =
+  entries-more read size zero bytes = ap (λ k. read (part k size bytes) ∷ []) (sym (mul-zero size))
+  entries-more read size (suc n) bytes =
       let behind = drop-drop (size * n) size bytes ∙ ap (λ k. drop k bytes) (add-comm size (size * n) ∙ sym (mul-suc size n)) in
       ap (λ xs. read (take size bytes) ∷ xs)
-      (entries-suc read size n (drop size bytes) ∙ ap (λ bs. entriesIn read size n (drop size bytes) ++ read (take size bs) ∷ []) behind)
-
-  -- one entry more of those that begin at an offset
-  pub entries-more : (read : List ℕ → A) (size n from : ℕ) (bytes : List ℕ) {at : ℕ} → at ≡ from + size * n
-      → entriesIn read size (suc n) (drop from bytes) ≡ entriesIn read size n (drop from bytes) ++ read (part at size bytes) ∷ []
-  entries-more read size n from bytes e =
-      entries-suc read size n (drop from bytes)
-      ∙ ap (λ bs. entriesIn read size n (drop from bytes) ++ read (take size bs) ∷ []) (drop-drop (size * n) from bytes ∙ ap (λ k. drop k bytes) (sym e))
+      (entries-more read size n (drop size bytes) ∙ ap (λ bs. entriesIn read size n (drop size bytes) ++ read (take size bs) ∷ []) behind)
 
   pub joined-more : (write : A → List ℕ) (xs : List A) (n : ℕ) (d : A) → n < length xs
       → joined write (take (suc n) xs) ≡ joined write (take n xs) ++ write (getD xs n d)
@@ -35,13 +30,32 @@ module _ {A : Type 0} where
   joined-more write (x ∷ xs) (suc n) d h =
       ap (λ bs. write x ++ bs) (joined-more write xs n d (omega arith)) ∙ sym (append-assoc (write x) (joined write (take n xs)) (write (getD xs n d)))
 
--- a part of a part
-pub cut-later : (from m n : ℕ) (bytes : List ℕ) → from + m ≤ n → take m (drop from (take n bytes)) ≡ take m (drop from bytes)
-cut-later zero m n bytes h = take-take m n bytes (omega arith)
-cut-later (suc from) m zero bytes h = absurd (omega arith)
-cut-later (suc from) m (suc n) [] h = refl
-cut-later (suc from) m (suc n) (b ∷ bytes) h = cut-later from m n bytes (omega arith)
+-- entries read piece by piece, k pieces an entry, from the list of the pieces
+module _ (piece : List ℕ → ℕ) (size : ℕ) where
+  first-pieces : (k m : ℕ) (bytes : List ℕ) → take k (entriesIn piece size (k + m) bytes) ≡ entriesIn piece size k bytes
+  first-pieces zero m bytes = refl
+  first-pieces (suc k) m bytes =
+      let more : suc k + m ≡ suc (k + m) = omega arith in
+      rw more (ap (λ xs. piece (take size bytes) ∷ xs) (first-pieces k m (drop size bytes)))
 
+  later-pieces : (k m : ℕ) (bytes : List ℕ) → drop k (entriesIn piece size (k + m) bytes) ≡ entriesIn piece size m (drop (size * k) bytes)
+  later-pieces zero m bytes =
+      let none : 0 + m ≡ m = omega arith in
+      rw (none, mul-zero) refl
+  later-pieces (suc k) m bytes =
+      let more : suc k + m ≡ suc (k + m) = omega arith in
+      rw more
+      (later-pieces k m (drop size bytes)
+      ∙ ap (entriesIn piece size m) (drop-drop (size * k) size bytes ∙ ap (λ n. drop n bytes) (add-comm size (size * k) ∙ sym (mul-suc size k))))
+
+  pub by-pieces : {A : Type 0} (read whole : List ℕ → A) (k : ℕ) → ((bs : List ℕ) → whole (take (size * k) bs) ≡ read (entriesIn piece size k bs))
+      → (n : ℕ) (bytes : List ℕ) → entriesIn read k n (entriesIn piece size (k * n) bytes) ≡ entriesIn whole (size * k) n bytes
+  by-pieces read whole k same zero bytes = refl
+  by-pieces read whole k same (suc n) bytes =
+      let more : k * suc n ≡ k + k * n = mul-suc k n ∙ add-comm (k * n) k in
+      rw (more, first-pieces k (k * n) bytes, later-pieces k (k * n) bytes, same bytes, by-pieces read whole k same n (drop (size * k) bytes)) refl
+
+-- a part of a part
 pub part-first : (m at n : ℕ) (bytes : List ℕ) → m ≤ n → take m (part at n bytes) ≡ part at m bytes
 part-first m at n bytes h = take-take m n (drop at bytes) h
 
@@ -49,20 +63,19 @@ pub part-of-part : (from m at n : ℕ) (bytes : List ℕ) → from + m ≤ n →
 part-of-part from m at n bytes h = cut-later from m n (drop at bytes) h ∙ ap (take m) (drop-drop from at bytes)
 
 -- an array that a part is copied into is that part
-pub copied : (at n : ℕ) (bytes some : List ℕ) → at + n ≤ length bytes → length some ≡ n
-    → let new = take (at + n - at) (drop at bytes) in take (length new) new ++ drop (length new) some ≡ part at n bytes
-copied at n bytes some room e =
-    let whole : at + n - at ≡ n = omega arith in
-    let long : length (part at n bytes) ≡ n = length-take-le n (drop at bytes) (omega (arith, length-drop at bytes)) in
-    rw (whole, take-length (part at n bytes), drop-of-length-le some {i = length (part at n bytes)} (omega arith)) (append-nil (part at n bytes))
+pub copied : (new some : List ℕ) → length some ≡ length new → take (length new) new ++ drop (length new) some ≡ new
+copied new some e = rw (take-length new, drop-of-length-le some {i = length new} (omega arith)) (append-nil new)
 
--- a number of two bytes, and of four
+-- a number of one byte, of two and of four
 part-next : (at n : ℕ) (bytes : List ℕ) → at < length bytes → part at (suc n) bytes ≡ getD bytes at 0 ∷ part (suc at) n bytes
 part-next at n bytes h = ap (take (suc n)) (drop-cons bytes at 0 h)
 
 number-next : (at n : ℕ) (bytes : List ℕ) → at < length bytes
     → numberOf (part at (suc n) bytes) ≡ getD bytes at 0 + 256 * numberOf (part (suc at) n bytes)
 number-next at n bytes h = ap numberOf (part-next at n bytes h)
+
+pub number-of-one : (at : ℕ) (bytes : List ℕ) → at < length bytes → getD bytes at 0 ≡ numberOf (part at 1 bytes)
+number-of-one at bytes h = omega (arith, number-next at 0 bytes h)
 
 pub number-of-two : (at : ℕ) (bytes : List ℕ) → at + 2 ≤ length bytes
     → getD bytes at 0 + 256 * getD bytes (at + 1) 0 ≡ numberOf (part at 2 bytes)

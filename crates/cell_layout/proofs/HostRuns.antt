@@ -1,8 +1,8 @@
 -- An event, a drain and a list of events at a cell are those at its plan and its table, so what the emptying theorem says of the one holds of the other.
 use Prim.Native.Nat.{ℕ, zero, suc, _+_, _-_, _≤_, _<_}
 use native.Mathlib.Omega.{arith}
-use mathlib.Core.Bool.{Bool, true, false, cond}
-use mathlib.Core.List.{List, [], _∷_, _++_}
+use mathlib.Core.Bool.{false, cond}
+use mathlib.Core.List.{List, [], _∷_}
 use mathlib.Core.Logic.{inl, inr, ⊎-elim}
 use mathlib.Core.Path.{_≡_, refl, sym, ap, subst, _∙_}
 use lib.Dec.{eqb}
@@ -21,7 +21,7 @@ use Rattle.model.proofs.Decide.{fails, decided, decides-eq, decides-le}
 use Rattle.model.proofs.Soundness.{decides-sound}
 use Rattle.model.proofs.Lists.{each-map, each-both, append-each}
 use Rattle.events.specs.JobList.{jobsOf, listOf, Agrees}
-use Rattle.events.specs.Events.{isAdmitted, answer, listAfter}
+use Rattle.events.specs.Events.{isAdmitted, listAfter}
 use Rattle.events.specs.Drain.{Moves, stay, move, DrainRule}
 use Rattle.events.specs.declared.Event.{Event}
 use Rattle.events.specs.declared.ListDrained.{ListDrained}

@@ -3,7 +3,7 @@ use Prim.Native.Nat.{ℕ, zero, suc, _≤_, _<_}
 use native.Mathlib.Omega.{arith}
 use mathlib.Core.List.{List, [], _∷_}
 use mathlib.Core.Logic.{⊎-elim}
-use mathlib.Core.Path.{_≡_, refl, sym, ap, subst, _∙_}
+use mathlib.Core.Path.{_≡_, refl, sym, ap, subst}
 use lib.ListN.{length, getD, replicate}
 use Rattle.model.specs.Limits.{maxRows, maxAllStages}
 use Rattle.model.specs.Numbers.{Each}
@@ -74,8 +74,8 @@ read-fits text = ⊎-elim accepted (λ no. subst PlanFits (sym (refused-empty te
 module _ (text bytes : List ℕ) (h : cellSize ≤ length bytes) where
   pub plan-read : planIn (readCell text bytes) ≡ reading text .plan
   unfolding readCell
-  plan-read = plan-back (reading text .plan) (read-fits text) bytes h
+  plan-read = plan-back bytes h (reading text .plan) (read-fits text)
 
   pub list-stays : listIn (readCell text bytes) ≡ listIn bytes
   unfolding readCell
-  list-stays = list-kept (reading text .plan) (read-fits text) bytes h
+  list-stays = list-kept bytes h (reading text .plan)

@@ -36,6 +36,11 @@ readAnswer text bytes = cond (isCell bytes) (packedReading (reading text)) noCel
 unfoldable pub readCell : List ℕ → List ℕ → List ℕ
 readCell text bytes = withPlan (reading text .plan) bytes
 
+-- the line of a text that a refusal is about: where in the text it begins, in the lowest 32 bits, and where it ends, in the highest 32; 0 and 0 if
+-- the answer is about no line
+unfoldable pub shownAnswer : List ℕ → ℕ
+shownAnswer text = reading text .from + 4294967296 * reading text .to
+
 -- the plan is written into a space: the answer and the length, and the space afterwards
 abbrev pub packedWriting : Writing → ℕ
 packedWriting w = packed (writeNumber (w .answer)) (w .length) 0

@@ -1,16 +1,18 @@
--- A cell: a plan and a table in the bytes of a host, at fixed offsets. A number of more than one byte has its lowest byte first.
+-- A cell: a plan and a table in the bytes of a host. It is a list of parts, one behind the other; where a part begins is the sum of the sizes
+-- before it, and nothing else says an offset. A number of more than one byte has its lowest byte first.
 use Prim.Native.Nat.{ℕ, zero, suc, _+_, _*_, _/_, _%_}
 use mathlib.Core.Bool.{Bool, cond}
 use mathlib.Core.List.{List, [], _∷_, _++_}
 use lib.Dec.{leb}
-use lib.ListN.{length, take, drop, getD}
-use Rattle.model.specs.Limits.{maxResources, maxTypes, maxRows, maxAllStages, maxJobs}
+use lib.ListN.{length, take, getD}
+use Rattle.model.specs.Limits.{maxResources, maxTypes, maxRows, maxJobs}
 use Rattle.model.specs.Plan.{emptyPlan}
-use Rattle.model.specs.declared.Stage.{Stage}
 use Rattle.model.specs.declared.Plan.{Plan}
 use Rattle.model.specs.declared.Job.{Job}
 use Rattle.events.specs.JobList.{emptyList}
 use Rattle.events.specs.declared.JobList.{JobList}
+use Rattle.plan_bytes.specs.Over.{part, entriesIn, stageBytes, stagesSize, planRead, emptyFrame}
+use Rattle.plan_bytes.specs.declared.Frame.{Frame}
 use Rattle.moves_text.specs.Space.{overlaidAt}
 
 -- the number that these bytes hold, and the n lowest bytes of a number
@@ -22,28 +24,14 @@ abbrev pub bytesOf : ℕ → ℕ → List ℕ
 bytesOf zero v = []
 bytesOf (suc n) v = v % 256 ∷ bytesOf n (v / 256)
 
--- n bytes from an offset on
-abbrev pub part : ℕ → ℕ → List ℕ → List ℕ
-part from n bytes = take n (drop from bytes)
-
--- n entries of so many bytes each, one behind the other; and what they come to
-abbrev pub entriesIn : {A : Type 0} → (List ℕ → A) → ℕ → ℕ → List ℕ → List A
-entriesIn read size zero bytes = []
-entriesIn read size (suc n) bytes = read (take size bytes) ∷ entriesIn read size n (drop size bytes)
-
+-- what entries come to, one behind the other
 abbrev pub joined : {A : Type 0} → (A → List ℕ) → List A → List ℕ
 joined write [] = []
 joined write (x ∷ xs) = write x ++ joined write xs
 
--- a stage has 64 bytes: what it demands of each resource, and what it weighs in each row
-abbrev pub stageSize : ℕ
-stageSize = 64
-
-abbrev pub stageIn : List ℕ → Stage
-stageIn bytes = record { demand = take maxResources bytes; weight = part maxResources maxRows bytes }
-
-abbrev pub stageBytes : Stage → List ℕ
-stageBytes s = s .demand ++ s .weight
+-- a bound has 2 bytes
+abbrev pub boundSize : ℕ
+boundSize = 2
 
 -- a job has 12 bytes: its number, its type and its stage
 abbrev pub jobSize : ℕ
@@ -55,72 +43,129 @@ jobIn bytes = record { number = numberOf (take 4 bytes); kind = numberOf (part 4
 abbrev pub jobBytes : Job → List ℕ
 jobBytes j = bytesOf 4 (j .number) ++ bytesOf 4 (j .kind) ++ bytesOf 4 (j .stage)
 
--- where the lists of the plan begin, the table, and its jobs; and the bytes of the whole
-abbrev pub capacityAt : ℕ
-capacityAt = 3
+-- the parts of a cell in their order, by how many bytes each has
+abbrev pub sizes : List ℕ
+sizes =
+    1  -- the count of resources
+    ∷ 1  -- the count of types
+    ∷ 1  -- the count of rows
+    ∷ maxResources  -- 32: the capacities
+    ∷ maxResources  -- 32: the ranks
+    ∷ boundSize * maxRows  -- 64: the bounds
+    ∷ maxTypes  -- 16: the lengths
+    ∷ stagesSize  -- 8192: the stages
+    ∷ 1  -- the count of jobs
+    ∷ jobSize * maxJobs  -- 768: the jobs
+    ∷ []
 
-abbrev pub rankAt : ℕ
-rankAt = 35
+-- the same parts by their names
+abbrev pub resourcesPart : ℕ
+resourcesPart = 0
 
-abbrev pub boundAt : ℕ
-boundAt = 67
+abbrev pub typesPart : ℕ
+typesPart = 1
 
-abbrev pub lengthsAt : ℕ
-lengthsAt = 131
+abbrev pub rowsPart : ℕ
+rowsPart = 2
 
-abbrev pub stagesAt : ℕ
-stagesAt = 147
+abbrev pub capacitiesPart : ℕ
+capacitiesPart = 3
 
-abbrev pub tableAt : ℕ
-tableAt = 8339
+abbrev pub ranksPart : ℕ
+ranksPart = 4
 
-abbrev pub jobsAt : ℕ
-jobsAt = 8340
+abbrev pub boundsPart : ℕ
+boundsPart = 5
+
+abbrev pub lengthsPart : ℕ
+lengthsPart = 6
+
+abbrev pub stagesPart : ℕ
+stagesPart = 7
+
+abbrev pub jobCountPart : ℕ
+jobCountPart = 8
+
+abbrev pub jobsPart : ℕ
+jobsPart = 9
+
+-- where a part begins, and the bytes of the whole
+abbrev pub total : List ℕ → ℕ
+total [] = 0
+total (n ∷ ns) = n + total ns
+
+abbrev pub sizeOf : ℕ → ℕ
+sizeOf k = getD sizes k 0
+
+abbrev pub offsetOf : ℕ → ℕ
+offsetOf k = total (take k sizes)
 
 abbrev pub cellSize : ℕ
-cellSize = 9108
+cellSize = total sizes
 
 -- there are bytes enough for a cell; those beyond belong to the host
 abbrev pub isCell : List ℕ → Bool
 isCell bytes = leb cellSize (length bytes)
 
--- the plan that lies in the bytes; too few of them hold the empty plan
-unfoldable pub planLaid : List ℕ → Plan
-planLaid bytes =
+-- what lies in a part, and the bytes with something else in it, as much as it has room for; and in several, one after the other
+abbrev pub partIn : ℕ → List ℕ → List ℕ
+partIn k bytes = part (offsetOf k) (sizeOf k) bytes
+
+abbrev pub withPart : ℕ → List ℕ → List ℕ → List ℕ
+withPart k new bytes = overlaidAt (offsetOf k) (take (sizeOf k) new) bytes
+
+abbrev pub withParts : List (ℕ × List ℕ) → List ℕ → List ℕ
+withParts [] bytes = bytes
+withParts ((k, new) ∷ more) bytes = withParts more (withPart k new bytes)
+
+-- the plan that lies in the bytes: its frame, and the plan of that and of the bytes of the stages; too few of them hold the empty plan
+unfoldable pub frameLaid : List ℕ → Frame
+frameLaid bytes =
     record {
-      resources = getD bytes 0 0;
-      types = getD bytes 1 0;
-      rows = getD bytes 2 0;
-      capacity = part capacityAt maxResources bytes;
-      rank = part rankAt maxResources bytes;
-      bound = entriesIn numberOf 2 maxRows (drop boundAt bytes);
-      lengths = part lengthsAt maxTypes bytes;
-      stages = entriesIn stageIn stageSize maxAllStages (drop stagesAt bytes);
+      resources = numberOf (partIn resourcesPart bytes);
+      types = numberOf (partIn typesPart bytes);
+      rows = numberOf (partIn rowsPart bytes);
+      capacity = partIn capacitiesPart bytes;
+      rank = partIn ranksPart bytes;
+      bound = entriesIn numberOf boundSize maxRows (partIn boundsPart bytes);
+      lengths = partIn lengthsPart bytes;
     }
+
+abbrev pub frameIn : List ℕ → Frame
+frameIn bytes = cond (isCell bytes) (frameLaid bytes) emptyFrame
+
+unfoldable pub planLaid : List ℕ → Plan
+planLaid bytes = planRead (frameLaid bytes) (partIn stagesPart bytes)
 
 abbrev pub planIn : List ℕ → Plan
 planIn bytes = cond (isCell bytes) (planLaid bytes) emptyPlan
 
 -- the job list of the table that lies in the bytes; too few of them hold no job
 unfoldable pub listLaid : List ℕ → JobList
-listLaid bytes = record { count = getD bytes tableAt 0; jobs = entriesIn jobIn jobSize maxJobs (drop jobsAt bytes) }
+listLaid bytes = record { count = numberOf (partIn jobCountPart bytes); jobs = entriesIn jobIn jobSize maxJobs (partIn jobsPart bytes) }
 
 abbrev pub listIn : List ℕ → JobList
 listIn bytes = cond (isCell bytes) (listLaid bytes) emptyList
 
+-- what a plan and a job list put into which part
+abbrev pub planParts : Plan → List (ℕ × List ℕ)
+planParts p =
+    (resourcesPart, p .resources ∷ [])
+    ∷ (typesPart, p .types ∷ [])
+    ∷ (rowsPart, p .rows ∷ [])
+    ∷ (capacitiesPart, p .capacity)
+    ∷ (ranksPart, p .rank)
+    ∷ (boundsPart, joined (bytesOf boundSize) (p .bound))
+    ∷ (lengthsPart, p .lengths)
+    ∷ (stagesPart, joined stageBytes (p .stages))
+    ∷ []
+
+abbrev pub listParts : JobList → List (ℕ × List ℕ)
+listParts l = (jobCountPart, bytesOf 1 (l .count)) ∷ (jobsPart, joined jobBytes (l .jobs)) ∷ []
+
 -- the bytes with a plan in them in place of the one that was there, and with a job list; too few of them stay as they are
-abbrev pub planBytes : Plan → List ℕ
-planBytes p =
-    p .resources
-    ∷ p .types
-    ∷ p .rows
-    ∷ p .capacity ++ p .rank ++ joined (bytesOf 2) (p .bound) ++ p .lengths ++ joined stageBytes (p .stages)
-
-abbrev pub listBytes : JobList → List ℕ
-listBytes l = bytesOf 1 (l .count) ++ joined jobBytes (l .jobs)
-
 unfoldable pub withPlan : Plan → List ℕ → List ℕ
-withPlan p bytes = cond (isCell bytes) (overlaidAt 0 (planBytes p) bytes) bytes
+withPlan p bytes = cond (isCell bytes) (withParts (planParts p) bytes) bytes
 
 unfoldable pub withList : JobList → List ℕ → List ℕ
-withList l bytes = cond (isCell bytes) (overlaidAt tableAt (listBytes l) bytes) bytes
+withList l bytes = cond (isCell bytes) (withParts (listParts l) bytes) bytes

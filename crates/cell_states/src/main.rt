@@ -54,10 +54,11 @@ fn print_count(states: u64, end: u8) {
 }
 
 fn main() {
-    let p = plan::crossing_routes();
-    let s = space::explored(p);
+    let frame = plan::frame();
+    let stages = plan::stages();
+    let s = space::explored(frame, &stages);
     let found = s.found;
-    let emptied = emptying::emptied(s, p);
+    let emptied = emptying::emptied(s, frame, &stages);
     let kept = rows::kept() & found;
     print_states(found, kept, emptied);
     io::write_all(
@@ -66,7 +67,7 @@ fn main() {
     );
     print_count(found, b'\t');
     print_count(found >> 47, b'\t');
-    print_count(emptying::blocked(s, p), b'\t');
+    print_count(emptying::blocked(s, frame, &stages), b'\t');
     print_count(emptied, b'\t');
     print_count(found ^ emptied ^ kept, b'\n');
 }

@@ -1,6 +1,5 @@
 // The crossing routes with capacities 1, 2, 1 and no rows.
-use model::Plan;
-use model::Stage;
+use plan_bytes::Frame;
 
 fn capacity() -> [u8; 32] {
     let mut capacity = [0; 32];
@@ -17,33 +16,22 @@ fn lengths() -> [u8; 16] {
     lengths
 }
 
-// A stage that demands one unit of a resource, counted from 0; resource 32 is none.
-fn stage(resource: usize) -> Stage {
-    let mut demand = [0; 32];
-    if resource < 32 {
-        demand[resource] = 1;
-    }
-    Stage {
-        demand: demand,
-        weight: [0; 32],
-    }
-}
-
-// Type 1 goes over the resources 1, 2, 3 and type 2 over 3, 2, 1.
+// Type 1 goes over the resources 1, 2, 3 and type 2 over 3, 2, 1, counted from 0.
 const ROUTES: [usize; 6] = [0, 1, 2, 2, 1, 0];
 
-fn stages() -> [Stage; 128] {
-    let mut stages = [stage(32); 128];
+// Each stage demands one unit, at the place of its resource among its 64 bytes.
+pub(crate) fn stages() -> [u8; 8192] {
+    let mut stages = [0; 8192];
     let mut i = 0;
     while i < 6 {
-        stages[i] = stage(ROUTES[i]);
+        stages[i * 64 + ROUTES[i] % 32] = 1;
         i += 1;
     }
     stages
 }
 
-pub(crate) fn crossing_routes() -> Plan {
-    Plan {
+pub(crate) fn frame() -> Frame {
+    Frame {
         resources: 3,
         types: 2,
         rows: 0,
@@ -51,6 +39,5 @@ pub(crate) fn crossing_routes() -> Plan {
         rank: [0; 32],
         bound: [0; 32],
         lengths: lengths(),
-        stages: stages(),
     }
 }

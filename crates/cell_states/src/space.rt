@@ -4,7 +4,7 @@ ghost use Prim.Native.Nat.{_≤_};
 use crate::table1::number_of;
 use admission::Outcome;
 use admission::Table;
-use model::Plan;
+use plan_bytes::Frame;
 
 // The states found, bit n of `found` for number n of Table 1 and bit 47 for one that it lacks, with a table of each.
 pub(crate) struct Space {
@@ -64,14 +64,14 @@ fn with_outcome(s: Space, o: Outcome) -> Space {
 }
 
 // With the states that one event leads to from this table.
-fn followed(s: Space, p: Plan, t: Table) -> Space {
+fn followed(s: Space, frame: Frame, stages: &[u8], t: Table) -> Space {
     let mut next = s;
     let mut job = 1;
     while job <= 5 {
-        next = with_outcome(next, t.load(p, job, 1));
-        next = with_outcome(next, t.load(p, job, 2));
-        next = with_outcome(next, t.advance(p, job));
-        next = with_outcome(next, t.unload(p, job));
+        next = with_outcome(next, t.load(frame, stages, job, 1));
+        next = with_outcome(next, t.load(frame, stages, job, 2));
+        next = with_outcome(next, t.advance(frame, stages, job));
+        next = with_outcome(next, t.unload(frame, stages, job));
         job += 1;
     }
     next
@@ -82,14 +82,14 @@ fn u32_to_usize(x: u32) -> usize {
 }
 
 // Each state is followed once, the lowest number first.
-pub(crate) fn explored(p: Plan) -> Space {
+pub(crate) fn explored(frame: Frame, stages: &[u8]) -> Space {
     let mut s = empty_cell();
     let mut done = 0;
     let mut left: usize = 48;
     while 0 < left {
         let n = u32_to_usize(u64::trailing_zeros(s.found ^ done));
         if n < 48 {
-            s = followed(s, p, s.tables[n]);
+            s = followed(s, frame, stages, s.tables[n]);
             done = done | 1 << n;
         }
         left -= 1;
@@ -108,13 +108,13 @@ fn bit_after(o: Outcome) -> u64 {
 }
 
 // The set of the other states that an advance or an unload leads to from this table.
-pub(crate) fn moves_from(p: Plan, t: Table) -> u64 {
+pub(crate) fn moves_from(frame: Frame, stages: &[u8], t: Table) -> u64 {
     let own = bit_of(t);
     let mut set = own;
     let mut job = 1;
     while job <= 5 {
-        set = set | bit_after(t.advance(p, job));
-        set = set | bit_after(t.unload(p, job));
+        set = set | bit_after(t.advance(frame, stages, job));
+        set = set | bit_after(t.unload(frame, stages, job));
         job += 1;
     }
     set ^ own

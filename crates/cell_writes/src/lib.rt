@@ -1,16 +1,28 @@
 // A plan and a job list, written into the bytes of a host.
 ghost use mathlib.Core.Path.{_≡_};
 ghost use Prim.Native.Nat.{_+_, _≤_, _%_};
-ghost use lib.ListN.{length};
+ghost use mathlib.Core.List.{[]};
+ghost use lib.ListN.{length, take};
+ghost use Rattle.plan_bytes.specs.Over.{planRead, planOver};
 ghost use Rattle.moves_text.specs.Space.{overlaidAt};
-ghost use Rattle.cell_layout.specs.Layout.{bytesOf, joined, stageBytes, stageSize, jobBytes, jobSize, boundAt, stagesAt, jobsAt, cellSize};
-ghost use Rattle.cell_layout.specs.Layout.{withPlan, withList};
-use cell_reads::CELL;
+ghost use Rattle.cell_layout.specs.Layout.{bytesOf, joined, boundSize, jobBytes, jobSize, offsetOf, boundsPart, stagesPart, cellSize};
+ghost use Rattle.cell_layout.specs.Layout.{withParts, planParts, withPlan, withList};
+use cell_layout::BOUNDS;
+use cell_layout::CAPACITIES;
+use cell_layout::CELL;
+use cell_layout::JOB_COUNT;
+use cell_layout::JOBS;
+use cell_layout::LENGTHS;
+use cell_layout::RANKS;
+use cell_layout::RESOURCES;
+use cell_layout::STAGES;
 use events::JobList;
 use model::Job;
-use model::Plan;
-use model::Stage;
 use output_lines::put_text;
+use plan_bytes::Frame;
+
+// The bytes of all stages.
+const ALL_STAGES: usize = JOB_COUNT - STAGES;
 
 fn low_byte(n: u32) -> u8
     ensures { λ r. ⌜ r ≡ n % 256 ⌝ }
@@ -38,77 +50,63 @@ fn put_job(j: Job, cell: &mut [u8], at: usize)
 }
 
 fn put_bound(bound: u16, cell: &mut [u8], at: usize)
-    requires { ⌜ at + 2 ≤ length (now cell) ⌝ }
-    ensures { λ _. ⌜ now (cell .exit) ≡ overlaidAt at (bytesOf 2 bound) (now (cell .entry)) ⌝ }
+    requires { ⌜ at + boundSize ≤ length (now cell) ⌝ }
+    ensures { λ _. ⌜ now (cell .exit) ≡ overlaidAt at (bytesOf boundSize bound) (now (cell .entry)) ⌝ }
 {
     cell[at] = low_byte(bound as u32);
     cell[at + 1] = low_byte((bound / 256) as u32);
 }
 
-fn put_jobs(l: JobList, cell: &mut [u8])
-    requires { ⌜ cellSize ≤ length (now cell) ⌝ }
-    ensures { λ _. ⌜ now (cell .exit) ≡ overlaidAt jobsAt (joined jobBytes (l .jobs)) (now (cell .entry)) ⌝ }
-{
-    let mut i = 0;
-    while i < 64 {
-        put_job(l.jobs[i], cell, 8340 + 12 * i);
-        i += 1;
-    }
-}
-
 fn put_bounds(bound: [u16; 32], cell: &mut [u8])
     requires { ⌜ cellSize ≤ length (now cell) ⌝ }
-    ensures { λ _. ⌜ now (cell .exit) ≡ overlaidAt boundAt (joined (bytesOf 2) bound) (now (cell .entry)) ⌝ }
+    ensures { λ _. ⌜ now (cell .exit) ≡ overlaidAt (offsetOf boundsPart) (joined (bytesOf boundSize) bound) (now (cell .entry)) ⌝ }
 {
     let mut i = 0;
     while i < 32 {
-        put_bound(bound[i], cell, 67 + 2 * i);
+        put_bound(bound[i], cell, BOUNDS + 2 * i);
         i += 1;
     }
 }
 
-fn put_stage(s: Stage, cell: &mut [u8], at: usize)
-    requires { ⌜ at + stageSize ≤ length (now cell) ⌝ }
-    ensures { λ _. ⌜ (now (cell .exit) ≡ overlaidAt at (stageBytes s) (now (cell .entry))) × (length (stageBytes s) ≡ stageSize) ⌝ }
-{
-    put_text(&s.demand, cell, at);
-    put_text(&s.weight, cell, at + 32);
-}
-
-fn put_stages(p: Plan, cell: &mut [u8])
+// All parts of a plan but the last, its stages.
+fn put_frame(frame: Frame, cell: &mut [u8])
     requires { ⌜ cellSize ≤ length (now cell) ⌝ }
-    ensures { λ _. ⌜ now (cell .exit) ≡ overlaidAt stagesAt (joined stageBytes (p .stages)) (now (cell .entry)) ⌝ }
+    ensures { λ _. ⌜ now (cell .exit) ≡ withParts (take stagesPart (planParts (planRead frame []))) (now (cell .entry)) ⌝ }
 {
-    let mut i = 0;
-    while i < 128 {
-        put_stage(p.stages[i], cell, 147 + 64 * i);
-        i += 1;
-    }
+    put_text(&[frame.resources, frame.types, frame.rows], cell, RESOURCES);
+    put_text(&frame.capacity, cell, CAPACITIES);
+    put_text(&frame.rank, cell, RANKS);
+    let bound = frame.bound;
+    put_bounds(bound, cell);
+    put_text(&frame.lengths, cell, LENGTHS);
 }
 
-// The plan in place of the one that was there. Bytes too few for a cell stay as they are.
-pub fn put_plan(p: Plan, cell: &mut [u8])
-    ensures { λ _. ⌜ now (cell .exit) ≡ withPlan p (now (cell .entry)) ⌝ }
+// The plan in place of the one that was there. A slice that has not the bytes of all stages is that of none, and then those in the cell stay. Bytes
+// too few for a cell stay as they are.
+pub fn put_plan(frame: Frame, stages: &[u8], cell: &mut [u8])
+    ensures { λ _. ⌜ now (cell .exit) ≡ withPlan (planOver frame (now (stages .entry))) (now (cell .entry)) ⌝ }
 {
     if cell.len() < CELL {
         return;
     }
-    put_text(&[p.resources, p.types, p.rows], cell, 0);
-    put_text(&p.capacity, cell, 3);
-    put_text(&p.rank, cell, 35);
-    let bound = p.bound;
-    put_bounds(bound, cell);
-    put_text(&p.lengths, cell, 131);
-    put_stages(p, cell);
+    put_frame(frame, cell);
+    if stages.len() != ALL_STAGES {
+        return;
+    }
+    put_text(stages, cell, STAGES);
 }
 
-// The job list in place of the one that was there.
+// The job list in place of the one that was there. The jobs are taken from it where it lies: handed on, the whole list would be copied.
 pub fn put_list(l: JobList, cell: &mut [u8])
     ensures { λ _. ⌜ now (cell .exit) ≡ withList l (now (cell .entry)) ⌝ }
 {
     if cell.len() < CELL {
         return;
     }
-    cell[8339] = (l.count % 256) as u8;
-    put_jobs(l, cell);
+    cell[JOB_COUNT] = (l.count % 256) as u8;
+    let mut i = 0;
+    while i < 64 {
+        put_job(l.jobs[i], cell, JOBS + 12 * i);
+        i += 1;
+    }
 }

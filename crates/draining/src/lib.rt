@@ -8,16 +8,19 @@ ghost use Rattle.model.specs.Jobs.{noJob};
 ghost use Rattle.events.specs.JobList.{Agrees};
 ghost use Rattle.events.specs.Drain.{drainFrom, listDrain};
 ghost use Rattle.parts.specs.Parts.{ceilingsOf, earliestPosition, movedAt};
+ghost use Rattle.plan_bytes.specs.Over.{planOver};
+ghost use Rattle.model.specs.declared.Plan.{Plan};
 use agreement::agree;
 use events::Answer;
 use events::End;
 use events::JobList;
 use events::ListDrained;
+use joblists::laid;
 use joblists::with_replaced;
 use joblists::without_job;
 use model::Job;
-use model::Plan;
 use parts::Ceilings;
+use plan_bytes::Frame;
 use stages::length_of;
 use stages::stage_index;
 use sums::kept_after;
@@ -25,24 +28,22 @@ use sums::sums_of;
 
 // The position of the earliest loaded job whose move is admitted; the count where there is none. A job at its last stage
 // can always be unloaded.
-fn earliest(p: Plan, t: JobList, ceilings: Ceilings) -> usize
-    requires { ⌜ Sound p × Agrees p t × (ceilings ≡ ceilingsOf p) ⌝ }
-    ensures { λ r. ⌜ r ≡ earliestPosition p t ⌝ }
+fn earliest(frame: Frame, stages: &[u8], t: JobList, ceilings: Ceilings) -> usize
+    requires { ⌜ Sound (planOver frame (now stages)) × Agrees (planOver frame (now stages)) t × (ceilings ≡ ceilingsOf (planOver frame (now stages))) ⌝ }
+    ensures { λ r. ⌜ r ≡ earliestPosition (planOver frame (now (stages .entry))) t ⌝ }
 {
-    let sums = sums_of(p, t);
-    let lengths = p.lengths;
+    let jobs = laid(t);
     let count = t.count;
+    let sums = sums_of(frame, stages, count, &jobs);
     let mut i = 0;
     while i < count {
         let j = t.jobs[i];
-        if length_of(&lengths, j.kind) == j.stage {
+        if length_of(&frame.lengths, j.kind) == j.stage {
             return i;
         }
-        let from = stage_index(&lengths, j.kind, j.stage);
-        let old = p.stages[from];
+        let from = stage_index(&frame.lengths, j.kind, j.stage);
         let to = from + 1;
-        let new = p.stages[to];
-        if let Answer::Admitted = kept_after(sums, old, new, ceilings) {
+        if let Answer::Admitted = kept_after(sums, stages, from, to, ceilings) {
             return i;
         }
         i += 1;
@@ -69,11 +70,16 @@ fn after_move(t: JobList, at: usize, lengths: &[u8; 16]) -> JobList
 }
 
 // From an agreeing list: is a job left, is there budget, is some job's move admitted.
-fn drain_from(p: Plan, t: JobList, ceilings: Ceilings, budget: u32) -> ListDrained
-    requires { ⌜ Sound p × Agrees p t × (ceilings ≡ ceilingsOf p) ⌝ }
-    ensures { λ r. ⌜ r ≡ drainFrom p budget t ⌝ }
+fn drain_from(
+    frame: Frame,
+    stages: &[u8],
+    t: JobList,
+    ceilings: Ceilings,
+    budget: u32,
+) -> ListDrained
+    requires { ⌜ Sound (planOver frame (now stages)) × Agrees (planOver frame (now stages)) t × (ceilings ≡ ceilingsOf (planOver frame (now stages))) ⌝ }
+    ensures { λ r. ⌜ r ≡ drainFrom (planOver frame (now (stages .entry))) budget t ⌝ }
 {
-    let lengths = p.lengths;
     let mut t = t;
     let mut moves = 0;
     while 0 < t.count {
@@ -84,7 +90,7 @@ fn drain_from(p: Plan, t: JobList, ceilings: Ceilings, budget: u32) -> ListDrain
                 list: t,
             };
         }
-        let at = earliest(p, t, ceilings);
+        let at = earliest(frame, stages, t, ceilings);
         if t.count <= at {
             return ListDrained {
                 end: End::NoMove,
@@ -92,7 +98,7 @@ fn drain_from(p: Plan, t: JobList, ceilings: Ceilings, budget: u32) -> ListDrain
                 list: t,
             };
         }
-        t = after_move(t, at, &lengths);
+        t = after_move(t, at, &frame.lengths);
         moves += 1;
     }
     ListDrained {
@@ -102,13 +108,14 @@ fn drain_from(p: Plan, t: JobList, ceilings: Ceilings, budget: u32) -> ListDrain
     }
 }
 
-pub fn drain(t: JobList, p: Plan, budget: u32) -> ListDrained
-    ensures { λ r. ⌜ r ≡ listDrain p t budget ⌝ }
+pub fn drain(t: JobList, frame: Frame, stages: &[u8], budget: u32) -> ListDrained
+    ensures { λ r. ⌜ r ≡ listDrain (planOver frame (now (stages .entry))) t budget ⌝ }
 {
-    let agreement = agree(p, t);
+    let jobs = laid(t);
+    let agreement = agree(frame, stages, t.count, &jobs);
     let first = agreement.answer;
     match first {
-        Answer::Admitted => drain_from(p, t, agreement.ceilings, budget),
+        Answer::Admitted => drain_from(frame, stages, t, agreement.ceilings, budget),
         Answer::UnsoundPlan => ListDrained {
             end: End::UnsoundPlan,
             moves: 0,

@@ -1,4 +1,5 @@
 // What is asked of the entrances, and of the row test beneath them, and written, each number after a tab. Each function hands back the table afterwards.
+use crate::plan::Plan;
 use crate::spell::write_dotted;
 use crate::table::first_stage;
 use crate::table::jobs;
@@ -6,13 +7,11 @@ use crate::table::loaded;
 use crate::table::same;
 use admission::Outcome;
 use admission::Table;
+use joblists::laid;
 use libc::STDOUT_FILENO;
-use model::Plan;
-use model::Stage;
 use numbers::answer_number;
 use numbers::answer_place;
 use numbers::end_number;
-use parts::Ceilings;
 use plan_numbers::check_first;
 use plan_numbers::check_number;
 use plan_numbers::check_second;
@@ -60,10 +59,10 @@ fn answered(n: u32, place: u32, t: Table) -> Table {
 
 fn outcome(p: Plan, t: Table, letter: u8, job: u32, kind: u32) -> Outcome {
     match letter {
-        b'l' => t.load(p, job, kind),
-        b'a' => t.advance(p, job),
-        b'u' => t.unload(p, job),
-        _ => t.pull(p, job),
+        b'l' => t.load(p.frame, &p.stages, job, kind),
+        b'a' => t.advance(p.frame, &p.stages, job),
+        b'u' => t.unload(p.frame, &p.stages, job),
+        _ => t.pull(p.frame, &p.stages, job),
     }
 }
 
@@ -76,14 +75,14 @@ fn event(p: Plan, t: Table, letter: u8, job: u32, kind: u32) -> Table {
 
 // A drain's answer and its moves, and the jobs then active.
 fn drain(p: Plan, t: Table, budget: u32) -> Table {
-    let d = t.drain(p, budget);
+    let d = t.drain(p.frame, &p.stages, budget);
     let end = d.end;
     answered(end_number(end), d.moves, d.table)
 }
 
 // The upstream check's answer and its two places.
 fn check(p: Plan, t: Table) -> Table {
-    let c = upstream_check(p);
+    let c = upstream_check(p.frame, &p.stages);
     short(check_number(c));
     short(check_first(c));
     short(check_second(c));
@@ -92,16 +91,12 @@ fn check(p: Plan, t: Table) -> Table {
 
 // The row test of the table as it stands.
 fn rows(p: Plan, t: Table) -> Table {
-    let none = Stage {
-        demand: [0; 32],
-        weight: [0; 32],
-    };
-    let bound = p.bound;
-    let ceilings = Ceilings {
-        capacity: [0; 32],
-        bound,
-    };
-    let worst = worst_row(sums_of(p, t.list), none, none, ceilings);
+    let frame = p.frame;
+    let none = [0; 32];
+    let list = t.list;
+    let jobs = laid(list);
+    let sums = sums_of(frame, &p.stages, list.count, &jobs);
+    let worst = worst_row(&sums.rows, &none, &none, &frame.bound);
     short(worst.row);
     short(worst.excess);
     t
@@ -127,7 +122,7 @@ fn is_same_after(p: Plan, t: Table, letter: u8, job: u32) -> bool {
 }
 
 fn is_same_drained(p: Plan, t: Table) -> bool {
-    let d = t.drain(p, 1);
+    let d = t.drain(p.frame, &p.stages, 1);
     let end = d.end;
     short(end_number(end));
     short(d.moves);
@@ -137,9 +132,9 @@ fn is_same_drained(p: Plan, t: Table) -> bool {
 // Soundness; the answers of the check, the agreement, a load of job 8, an advance, an unload and a pull of job 7, and a drain,
 // with its moves; and 1 where each of these five handed the same table back.
 fn entrances(p: Plan, t: Table) -> Table {
-    number(is_sound(p) as u64);
-    short(check_number(upstream_check(p)));
-    short(answer_number(t.agreement(p)));
+    number(is_sound(p.frame, &p.stages) as u64);
+    short(check_number(upstream_check(p.frame, &p.stages)));
+    short(answer_number(t.agreement(p.frame, &p.stages)));
     let load = is_same_after(p, t, b'l', 8);
     let advance = is_same_after(p, t, b'a', 7);
     let unload = is_same_after(p, t, b'u', 7);
@@ -154,7 +149,7 @@ fn entrances(p: Plan, t: Table) -> Table {
 fn list(p: Plan, t: Table, letters: &[u8], x: u32, y: u32, z: u32, w: u32) -> Table {
     let numbers = [y, x, y, x, y, x, y, x, y];
     let kinds = [w, z, w, z, w, z, w, z, w];
-    let ran = runs::run(t, p, letters, &numbers, &kinds);
+    let ran = runs::run(t, p.frame, &p.stages, letters, &numbers, &kinds);
     number(jobs(ran.table));
     number(ran.admitted as u64);
     ran.table

@@ -15,10 +15,10 @@ mod plan;
 mod spell;
 mod table;
 
+use crate::plan::Plan;
 use admission::Table;
 use libc::STDIN_FILENO;
 use line::field;
-use model::Plan;
 use text_lines::line_end;
 
 // A plan and a table, which need not go together.
@@ -29,7 +29,7 @@ struct Cell {
 
 fn empty() -> Cell {
     Cell {
-        plan: plans::empty_plan(),
+        plan: plan::empty_plan(),
         table: Table::empty(),
     }
 }

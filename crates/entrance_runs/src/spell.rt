@@ -1,5 +1,5 @@
 // A plan written into the last bytes of a space of dots.
-use model::Plan;
+use crate::plan::Plan;
 use output_lines::at_most;
 use plan_spelling::Writing;
 use writer::write_plan;
@@ -11,7 +11,7 @@ pub(crate) struct Spelled {
 
 fn write_into(p: Plan, space: &mut [u8], room: usize) -> Writing {
     let from = space.len() - at_most(room, space.len());
-    write_plan(p, &mut space[from..])
+    write_plan(p.frame, &p.stages, &mut space[from..])
 }
 
 // The bytes of the space that are no dots: as many as were written, since no text has one.

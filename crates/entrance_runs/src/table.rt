@@ -1,8 +1,8 @@
 // Tables set job by job, without asking an event. Only this file makes a table or reads its count and its jobs.
+use crate::plan::Plan;
 use admission::Table;
 use events::JobList;
 use model::Job;
-use model::Plan;
 
 // Of the earliest loaded job.
 pub(crate) fn first_stage(t: Table) -> u32 {
@@ -61,7 +61,7 @@ pub(crate) fn loaded(p: Plan, t: Table, n: u32) -> Table {
     let mut job = 0;
     while job < n {
         job += 1;
-        t = t.load(p, job, 1).table;
+        t = t.load(p.frame, &p.stages, job, 1).table;
     }
     t
 }

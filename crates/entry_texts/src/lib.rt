@@ -38,7 +38,7 @@ fn entry_record(like: Record, number: u32, value: u32) -> Record
 }
 
 // No record where the value is 0.
-fn put_valued(like: Record, number: u32, value: u32, space: &mut [u8], at: usize) -> usize
+pub fn put_valued(like: Record, number: u32, value: u32, space: &mut [u8], at: usize) -> usize
     ensures { λ r. ⌜ (r ≡ length (textOf (valued value (entryOf like number)))) × (now (space .exit) ≡ overlaidAt at (textOf (valued value (entryOf like number))) (now (space .entry))) ⌝ }
     ensures { λ r. ⌜ r ≤ 46 ⌝ }
 {

@@ -10,10 +10,10 @@ use lent_table::apply;
 use libc::STDIN_FILENO;
 use libc::STDOUT_FILENO;
 use line_reader::LineReader;
-use model::Plan;
 use moves_text::EventLine;
 use numbers::answer_number;
 use numbers::answer_place;
+use plan_bytes::Frame;
 use reader::read;
 use text_lines::part_of;
 
@@ -49,7 +49,7 @@ fn tell(line: &[u8], ended: bool, answer: Answer, table: Table) {
 }
 
 // The host: it keeps the table from line to line.
-fn answer_lines(plan: Plan, text: &[u8]) {
+fn answer_lines(frame: Frame, stages: &[u8], text: &[u8]) {
     let mut table = Table::empty();
     let mut reader = LineReader::new(text);
     loop {
@@ -58,7 +58,7 @@ fn answer_lines(plan: Plan, text: &[u8]) {
             return;
         }
         let event = event_in(line.bytes, line.ended);
-        let answer = apply(&mut table, plan, event);
+        let answer = apply(&mut table, frame, stages, event);
         tell(line.bytes, line.ended, answer, table);
     }
 }
@@ -69,6 +69,9 @@ fn main() {
     let text = &input[..n];
     let plan_end = plan_length(text);
     let reading = read(part_of(text, 0, plan_end));
-    let plan = reading.plan;
-    answer_lines(plan, part_of(text, plan_end + 2, n));
+    answer_lines(
+        reading.frame,
+        &reading.stages,
+        part_of(text, plan_end + 2, n),
+    );
 }

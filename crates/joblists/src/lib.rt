@@ -1,13 +1,19 @@
-// The job with a number, and the job list after a job is added, replaced or taken out. Any list may be handed in.
+// The job list as numbers, three a slot, as an event asks it; the job with a number there; and the job list after a job is added, replaced or taken
+// out. Any list may be handed in.
 ghost use mathlib.Core.Path.{_≡_};
 ghost use Prim.Native.Nat.{min};
+ghost use lib.ListN.{getD};
 ghost use Rattle.model.specs.Limits.{maxJobs};
 ghost use Rattle.model.specs.Jobs.{noJob};
 ghost use Rattle.events.specs.JobList.{jobsOf};
 ghost use Rattle.parts.specs.Parts.{foundIn, withJob, withReplaced, withoutJob};
+ghost use Rattle.parts.specs.JobNumbers.{jobsLaid, listOver, applied};
 use events::JobList;
+use events::ListOutcome;
 use model::Job;
+use parts::Change;
 use parts::Found;
+use parts::Judgement;
 
 fn no_job() -> Job
     ensures { λ r. ⌜ r ≡ noJob ⌝ }
@@ -29,14 +35,46 @@ fn within(count: usize) -> usize
     64
 }
 
-// Where the job with a number stands, and the job.
-pub fn look_up(t: JobList, number: u32) -> Found
-    ensures { λ r. ⌜ r ≡ foundIn number (jobsOf t) ⌝ }
+// The job in a slot; none beyond the last.
+pub fn job_at(jobs: &[u32; 192], at: usize) -> Job
+    ensures { λ r. ⌜ r ≡ getD (jobsLaid (now (jobs .entry))) at noJob ⌝ }
 {
-    let n = within(t.count);
+    if 64 <= at {
+        return no_job();
+    }
+    let from = at * 3;
+    Job {
+        number: jobs[from],
+        kind: jobs[from + 1],
+        stage: jobs[from + 2],
+    }
+}
+
+// The numbers of a list's jobs, so that whoever asks is lent them and copies no list.
+pub fn laid(t: JobList) -> [u32; 192]
+    ensures { λ r. ⌜ jobsLaid r ≡ t .jobs ⌝ }
+{
+    let mut numbers = [0; 192];
+    let mut i = 0;
+    while i < 64 {
+        let j = t.jobs[i];
+        let from = i * 3;
+        numbers[from] = j.number;
+        numbers[from + 1] = j.kind;
+        numbers[from + 2] = j.stage;
+        i += 1;
+    }
+    numbers
+}
+
+// Where the job with a number stands, and the job.
+pub fn look_up(count: usize, jobs: &[u32; 192], number: u32) -> Found
+    ensures { λ r. ⌜ r ≡ foundIn number (jobsOf (listOver count (now (jobs .entry)))) ⌝ }
+{
+    let n = within(count);
     let mut i = 0;
     while i < n {
-        let j = t.jobs[i];
+        let j = job_at(jobs, i);
         if j.number == number {
             return Found { at: i, job: j };
         }
@@ -89,11 +127,34 @@ pub fn without_job(t: JobList, at: usize) -> JobList
     let mut i = at;
     while i < 63 {
         let from = i + 1;
-        let j = t.jobs[from];
+        let j = next.jobs[from];
         next.jobs[i] = j;
         i += 1;
     }
     next.jobs[63] = no_job();
     next.count = count - 1;
     next
+}
+
+// What an event with this judgement leads to.
+pub fn changed(t: JobList, judgement: Judgement) -> ListOutcome
+    ensures { λ r. ⌜ r ≡ applied t judgement ⌝ }
+{
+    let answer = judgement.answer;
+    let change = judgement.change;
+    match change {
+        Change::Nothing => ListOutcome { answer, list: t },
+        Change::Added(job) => ListOutcome {
+            answer,
+            list: with_job(t, job),
+        },
+        Change::Moved { at, job } => ListOutcome {
+            answer,
+            list: with_replaced(t, at, job),
+        },
+        Change::Removed(at) => ListOutcome {
+            answer,
+            list: without_job(t, at),
+        },
+    }
 }

@@ -4,12 +4,12 @@ use mir.Val.{Val}
 use denote.Laws.{Is}
 use denote.Struct.Laws as LL
 use denote.Enum.Laws as EL
-use Rattle.model.specs.declared.Plan.{Plan}
+use Rattle.plan_bytes.specs.declared.Frame.{Frame}
 use Rattle.events.specs.declared.Event.{Event}
 use Rattle.events.specs.declared.Answer.{Answer}
 use Rattle.admission.specs.declared.Table.{Table}
-use Rattle.model.proofs.Plan as P
-use Rattle.model.proofs.Plan.Laws as P′
+use Rattle.plan_bytes.proofs.Frame as F
+use Rattle.plan_bytes.proofs.Frame.Laws as F′
 use Rattle.events.proofs.Event as E
 use Rattle.events.proofs.Event.Laws as E′
 use Rattle.events.proofs.Answer as N
@@ -20,8 +20,8 @@ use Rattle.admission.proofs.Table.Laws as T′
 abbrev pub table-val : Table → Val
 table-val = LL.val T.the-type T′.the-laws
 
-abbrev pub plan-val : Plan → Val
-plan-val = LL.val P.the-type P′.the-laws
+abbrev pub frame-val : Frame → Val
+frame-val = LL.val F.the-type F′.the-laws
 
 abbrev pub event-val : Event → Val
 event-val = EL.val E.the-type E′.the-laws
@@ -32,8 +32,8 @@ answer-val = EL.val N.the-type N′.the-laws
 abbrev pub IsTable : Table → Type 0
 IsTable t = Is T.the-row t (table-val t ∷ [])
 
-abbrev pub IsPlan : Plan → Type 0
-IsPlan p = Is P.the-row p (plan-val p ∷ [])
+abbrev pub IsFrame : Frame → Type 0
+IsFrame f = Is F.the-row f (frame-val f ∷ [])
 
 abbrev pub IsEvent : Event → Type 0
 IsEvent e = Is E.the-row e (event-val e ∷ [])

@@ -4,9 +4,9 @@ use Prim.Native.Nat.{ℕ, suc, _+_, _-_, _≤_, _<_}
 use native.Mathlib.Numerals.{add-one}
 use native.Mathlib.Omega.{arith}
 use mathlib.Core.List.{List, [], _∷_, _++_, append-nil, append-assoc}
-use mathlib.Core.Path.{_≡_, refl, _∙_}
+use mathlib.Core.Path.{_≡_, refl, sym, ap, _∙_}
 use lib.ListN.{length, take, drop, set, getD, length-append, length-take, length-drop, take-append-drop, drop-of-length-le}
-use lib.Seq.{drop-cons, take-suc, getD-drop, set-at, take-all}
+use lib.Seq.{drop-cons, take-suc, getD-drop, getD-append-add, set-at, take-all}
 
 module _ {A : Type 0} (xs : List A) (gap : ℕ) (d : A) where
   shifted : ℕ → List A
@@ -30,6 +30,14 @@ module _ {A : Type 0} (xs : List A) (gap : ℕ) (d : A) where
     set-shifted : (a : A) → set (closedTo i) i a ≡ shifted i ++ a ∷ drop (suc i) xs
     unfolding closedTo
     set-shifted a = rw (drop-cons xs i d) (set-at (shifted i) (getD xs i d) (drop (suc i) xs) a i shifted-length)
+
+    -- behind the position nothing has moved yet
+    pub closed-later : getD (closedTo i) (i + 1) d ≡ getD xs (i + 1) d
+    unfolding closedTo
+    closed-later =
+        ap (λ n. getD (shifted i ++ drop i xs) (n + 1) d) (sym shifted-length)
+        ∙ getD-append-add (shifted i) (drop i xs) 1 d
+        ∙ getD-drop i xs 1 d
 
     pub closed-more : suc i < length xs → set (closedTo i) i (getD xs (i + 1) d) ≡ closedTo (i + 1)
     unfolding closedTo shifted

@@ -5,6 +5,7 @@ pub mod SumsPass
 pub mod SumsAfter
 pub mod ClosingGap
 pub mod Positions
+pub mod JobsLaid
 pub mod ListChanges
 pub mod QuestionParts
 pub mod FirstQuestions

@@ -17,7 +17,6 @@ use Rattle.model.specs.declared.Job.{Job}
 use Rattle.model.proofs.Decide.{Decides, holding, failing, fails, passes, decides-range, _and_}
 use Rattle.model.proofs.Flat as flat
 use Rattle.model.proofs.Flat.{flatIndex}
-use Rattle.model.proofs.Lists.{entry-there}
 use Rattle.parts.specs.Parts.{stageIndex, indexIn}
 use Rattle.parts.proofs.FixedWidth.{at-named}
 
@@ -52,7 +51,7 @@ module _ (p : Plan) (whole : length (p .stages) ≡ maxAllStages) (t k : ℕ) wh
   abbrev index : ℕ
   index = indexIn (p .lengths) (p .types) t k
 
-  stands : stageOf p t k ≡ getD (p .stages) index noStage
+  pub stands : stageOf p t k ≡ getD (p .stages) index noStage
   unfolding stageOf isStage
   stands = go (is-stage (p .lengths) (p .types) t k)
     where
@@ -63,14 +62,6 @@ module _ (p : Plan) (whole : length (p .stages) ≡ maxAllStages) (t k : ℕ) wh
       go : {b : Bool} → Decides (IsStage p t k) b → Same b
       go (holding h) = entry-index p t k (h .1 .0)
       go (failing h) = sym (List·getD-eq-default (p .stages) noStage (omega arith))
-
-  module _ (i : ℕ) (here : i ≡ index) where
-    -- whatever would be read where there is none
-    pub stage-there : i < maxAllStages → (d : Stage) → stageOf p t k ≡ getD (p .stages) i d
-    stage-there h d = stands ∙ rw (← here) (entry-there (p .stages) i noStage d (omega arith))
-
-    pub stage-nowhere : maxAllStages ≤ i → stageOf p t k ≡ noStage
-    stage-nowhere h = stands ∙ List·getD-eq-default (p .stages) noStage (omega arith)
 
 -- the next stage of a type stands behind the one before it
 pub index-next : (lengths : List ℕ) (t k : ℕ) → 1 ≤ k → stageIndex lengths t k + 1 ≡ stageIndex lengths t (k + 1)
@@ -101,9 +92,6 @@ module _ (p : Plan) (sound : Sound p) (j : Job) (staged : AtStage p j) (more : H
   to-index i here = ap (λ n. n + 1) here ∙ index-next (p .lengths) (j .kind) (j .stage) (staged .1 .0)
 
   module _ (i : ℕ) (here : Index i) where
-    pub from-within : i < maxAllStages
-    from-within = rw here (index-within p sound (j .kind) (j .stage) staged)
-
     pub to-within : i + 1 < maxAllStages
     to-within = rw (to-index i here) (index-within p sound (j .kind) (j .stage + 1) next-staged)
 

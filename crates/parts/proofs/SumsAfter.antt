@@ -115,7 +115,7 @@ module _ (p : Plan) (sound : Sound p) where
 
     module _ (old new : Stage) (e : Exchange p js next old new) where
       -- the row test gives the row and the excess of the definition
-      pub worst-exchanged : worstAfter (sumsOf p js) old new (ceilingsOf p) ≡ record { row = worstRow p next .0; excess = worstRow p next .1 }
+      pub worst-exchanged : worstAfter (sumsOf p js .rows) (old .weight) (new .weight) (p .bound) ≡ record { row = worstRow p next .0; excess = worstRow p next .1 }
       unfolding sumsOf worstRow
       worst-exchanged =
           greatest-after maxRows (p .rows) (weightOf p) (old .weight) (new .weight) (p .bound) (sound .rows) (e .rows) weight-beyond
@@ -129,7 +129,7 @@ module _ (p : Plan) (sound : Sound p) where
 
 -- so the row test says of the jobs afterwards what it says as worded
 pub row-tested : (p : Plan) (js next : List Job) (s : Sums) (old new : Stage) (c : Ceilings) → RowTestApplies p js next s old new c
-    → let r = worstAfter s old new c in RowTest p next (r .row) (r .excess)
+    → let r = worstAfter (s .rows) (old .weight) (new .weight) (c .bound) in RowTest p next (r .row) (r .excess)
 row-tested p js next s old new c h =
     rw (h .sums, h .ceilings)
     (subst⁻¹ (λ (r : WorstRow). RowTest p next (r .row) (r .excess)) (worst-exchanged p (h .sound) js next old new (h .exchange)) (row-test p next (h .staged)))

@@ -10,7 +10,7 @@ use lib.ListN.{length, take, getD, replicate}
 use lib.Seq.{take-suc, take-all}
 use Rattle.model.specs.Limits.{maxJobs}
 use Rattle.model.specs.Numbers.{InRange, at}
-use Rattle.model.specs.Plan.{noStage, stageOf, demandOf, weightOf}
+use Rattle.model.specs.Plan.{stageOf, demandOf, weightOf}
 use Rattle.model.specs.Jobs.{noJob, overJobs}
 use Rattle.model.specs.declared.Plan.{Plan}
 use Rattle.model.specs.declared.Stage.{Stage}
@@ -53,16 +53,9 @@ module _ (f : ℕ → ℕ → ℕ → ℕ) where
     one-more : (i : ℕ) → overJobs (f i) (js ++ j ∷ []) ≡ overJobs (f i) js + f i (j .kind) (j .stage)
     one-more i = omega (arith, over-jobs-append (f i) js (j ∷ []))
 
-    -- at no stage, and at a stage with these amounts
+    -- at a stage with these amounts
     abbrev Own : List ℕ → Type 0
     Own more = (i : ℕ) → f i (j .kind) (j .stage) ≡ at more i
-
-    tallied-nothing : Own (replicate 32 0) → Tallied f (js ++ j ∷ []) (n + 1) amounts
-    tallied-nothing own =
-        record {
-          few = record { lanes = t .few .lanes; low = λ i h. omega (arith, t .few .low i h) };
-          sums = λ i h. omega (arith, t .sums i h, own i, no-amount 32 i, one-more i);
-        }
 
     tallied-more : (more after : List ℕ) → Own more → Added amounts more after → Tallied f (js ++ j ∷ []) (n + 1) after
     tallied-more more after own a =
@@ -105,14 +98,6 @@ module _ (p : Plan) (t : JobList) (whole : length (t .jobs) ≡ maxJobs) where
     one-behind after sums =
         let e : js ++ j ∷ [] ≡ take (i + 1) (t .jobs) = rw add-one (sym (take-suc (t .jobs) i noJob (omega arith))) in
         subst (λ (is : List Job). SumsOver p is (i + 1) after) e sums
-
-    pub passed-nothing : stageOf p (j .kind) (j .stage) ≡ noStage → Passed p t (i + 1) s
-    passed-nothing none =
-        one-behind s
-        (record {
-          units = tallied-nothing (demandOf p) js j i (s .units) (passed .units) (own-demand p (j .kind) (j .stage) noStage none);
-          rows = tallied-nothing (weightOf p) js j i (s .rows) (passed .rows) (own-weight p (j .kind) (j .stage) noStage none);
-        })
 
     module _ (here : Stage) (at-stage : stageOf p (j .kind) (j .stage) ≡ here) (after : Sums) where
       demands : (r : ℕ) → demandOf p r (j .kind) (j .stage) ≡ at (here .demand) r

@@ -83,8 +83,8 @@ greatestAfter n amounts old new ceilings =
     record { row = most .0; excess = most .1 }
 
 -- the row exceeded by the most once one stage is exchanged for another, and its excess: what change request S-2 promises to all who use the row test
-abbrev pub worstAfter : Sums → Stage → Stage → Ceilings → WorstRow
-worstAfter s old new c = greatestAfter maxRows (s .rows) (old .weight) (new .weight) (c .bound)
+abbrev pub worstAfter : List ℕ → List ℕ → List ℕ → List ℕ → WorstRow
+worstAfter sums old new bounds = greatestAfter maxRows sums old new bounds
 
 -- the amounts of the jobs afterwards are those of the jobs now with the old given back and the new taken
 abbrev pub Exchanged : (ℕ → ℕ → ℕ) → List Job → List Job → ℕ → ℕ → Type 0
@@ -106,7 +106,7 @@ pub record RowTestApplies (p : Plan) (js next : List Job) (s : Sums) (old new : 
 -- questions 18 and 19 once one stage is exchanged for another
 unfoldable pub keptAfter : Sums → Stage → Stage → Ceilings → Answer
 keptAfter s old new c =
-    keptAnswer (lowestAfter maxResources (s .units) (old .demand) (new .demand) (c .capacity)) (worstAfter s old new c .row)
+    keptAnswer (lowestAfter maxResources (s .units) (old .demand) (new .demand) (c .capacity)) (worstAfter (s .rows) (old .weight) (new .weight) (c .bound) .row)
 
 -- the position of the job with this number, counted from 0; as many as there are jobs where none has it
 abbrev pub positionOf : ℕ → List Job → ℕ
@@ -161,10 +161,6 @@ withoutJob t i =
     cond (ltb i (t .count) && leb (t .count) maxJobs)
     (record { count = t .count - 1; jobs = take i (t .jobs) ++ drop (i + 1) (t .jobs) ++ noJob ∷ [] })
     t
-
--- what an event hands back that takes out the job at a position, where its questions were answered 0
-unfoldable pub removalFrom : JobList → Answer → ℕ → ListOutcome
-removalFrom t first i = cond (isAdmitted first) (record { answer = first; list = withoutJob t i }) (refusal first t)
 
 -- the part of agreement that needs no sums, in a plan with so many types and so many stages of each
 unfoldable pub wellFormed : ℕ → List ℕ → JobList → Bool

@@ -41,3 +41,17 @@ pub struct Agreement {
     pub sums: Sums,
     pub ceilings: Ceilings,
 }
+
+// What an admitted event does to a list: a job comes last, another stands at a position, the one at a position goes. A refused one does nothing.
+pub enum Change {
+    Nothing,
+    Added(Job),
+    Moved { at: usize, job: Job },
+    Removed(usize),
+}
+
+// The answer to an event, and what it does to the list.
+pub struct Judgement {
+    pub answer: Answer,
+    pub change: Change,
+}

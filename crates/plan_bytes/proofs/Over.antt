@@ -1,12 +1,13 @@
 -- A plan that is lent: with all the bytes it is what they say, and without them it is not sound.
 use Prim.Native.Nat.{ℕ, zero, suc, _+_, _*_, _≤_, _<_}
 use native.Mathlib.Nat.{mul-suc, add-comm}
+use native.Mathlib.Omega.{arith}
 use mathlib.Core.Bool.{Bool, true, false, _&&_, false≢true}
 use mathlib.Core.List.{List, [], _∷_}
 use mathlib.Core.Logic.{_≢_, ⊎-elim}
 use mathlib.Core.Path.{_≡_, refl, sym, ap, _∙_}
-use lib.ListN.{length, getD, replicate, length-replicate, replicate-append-replicate}
-use borrow.Author.Tests.{eq-eqb, ne-eqb}
+use lib.ListN.{length, getD, List·getD-eq-default, replicate, length-replicate, replicate-append-replicate}
+use borrow.Author.Tests.{eq-eqb, ne-eqb, lt-ltb, le-ltb}
 use Rattle.model.specs.Limits.{maxStages, maxAllStages}
 use Rattle.model.specs.Numbers.{inRange, at, entry, sumTo, allTo}
 use Rattle.model.specs.Plan.{noStage, emptyPlan, allStages, stageOf}
@@ -15,10 +16,10 @@ use Rattle.model.proofs.Decide.{Decides, holding, failing, holds, decided, _and
 use Rattle.model.proofs.Flat.{stage-at, stages-flat}
 use Rattle.model.specs.declared.Plan.{Plan}
 use Rattle.model.specs.declared.Stage.{Stage}
-use Rattle.plan_bytes.specs.Over.{entriesIn, stageIn, stageSize, stagesSize, wholeStages, planRead, planOver, emptyFrame}
+use Rattle.plan_bytes.specs.Over.{part, entriesIn, stageIn, stageSize, stagesSize, wholeStages, planRead, planOver, stageAt, emptyFrame}
 use Rattle.plan_bytes.specs.declared.Frame.{Frame}
 use Rattle.plan_bytes.proofs.Nothing.{nothing-unsound}
-use Rattle.plan_bytes.proofs.Laid.{entries-length, stageLent, stage-lent, empty-beyond}
+use Rattle.plan_bytes.proofs.Laid.{entries-length, stage-laid, stageLent, stage-lent, empty-beyond}
 
 module _ (f : Frame) (bytes : List ℕ) where
   pub over-whole : length bytes ≡ stagesSize → planOver f bytes ≡ planRead f bytes
@@ -71,6 +72,31 @@ over-there f bytes = stages-there f (wholeStages bytes)
 pub over-read : (f : Frame) (bytes : List ℕ) (i : ℕ) (d : Stage) → length bytes ≡ stagesSize → i < maxAllStages
     → getD (planOver f bytes .stages) i d ≡ stageLent bytes i
 over-read f bytes i d whole h = ap (λ (p : Plan). getD (p .stages) i d) (over-whole f bytes whole) ∙ stage-read f bytes i d h
+
+-- the stage at an index as code copies it, whatever the index and the bytes
+pub at-other : (bytes : List ℕ) (i : ℕ) → length bytes ≢ stagesSize → stageAt bytes i ≡ noStage
+unfolding stageAt
+at-other bytes i other = rw (ne-eqb (length bytes) stagesSize other) refl
+
+module _ (bytes : List ℕ) (i : ℕ) (whole : length bytes ≡ stagesSize) where
+  pub at-beyond : maxAllStages ≤ i → stageAt bytes i ≡ noStage
+  unfolding stageAt
+  at-beyond h = rw (eq-eqb (length bytes) stagesSize whole, le-ltb i maxAllStages h) refl
+
+  pub at-within : i < maxAllStages → stageAt bytes i ≡ record { demand = part (i * 64) 32 bytes; weight = part (i * 64 + 32) 32 bytes }
+  unfolding stageAt
+  at-within h = rw (eq-eqb (length bytes) stagesSize whole, lt-ltb i maxAllStages h) refl
+
+  -- it is the plan's
+  pub at-over : (f : Frame) → getD (planOver f bytes .stages) i noStage ≡ stageAt bytes i
+  unfolding planRead
+  at-over f =
+      ap (λ (p : Plan). getD (p .stages) i noStage) (over-whole f bytes whole)
+      ∙ ⊎-elim
+      (λ (h : i < maxAllStages). stage-laid bytes i noStage h ∙ sym (at-within h))
+      (λ (h : ¬ (i < maxAllStages)).
+      List·getD-eq-default (entriesIn stageIn stageSize maxAllStages bytes) noStage {n = i} (omega (arith, entries-length stageIn stageSize maxAllStages bytes)) ∙ sym (at-beyond (omega arith)))
+      (decided (decides-le (suc i) maxAllStages))
 
 -- the stages that a frame says there are
 abbrev pub stagesOf : Frame → ℕ

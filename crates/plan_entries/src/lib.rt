@@ -4,11 +4,11 @@ ghost use mathlib.Core.Path.{_≡_};
 ghost use Prim.Native.Nat.{ℕ};
 ghost use lib.Dec.{leb};
 ghost use Rattle.model.specs.Numbers.{at, allTo};
+ghost use Rattle.plan_bytes.specs.Over.{stageIn};
 ghost use Rattle.plan_text.specs.Written.{indexIn, heldBy};
 ghost use Rattle.plan_text.specs.Reading.{withinTotal};
 ghost use Rattle.plan_text.specs.ReaderParts.{recordAnswer, knownWith};
 use entries::entry_of;
-use model::Stage;
 use plan_text::Head;
 use plan_text::Record;
 use plan_text::TextAnswer;
@@ -27,26 +27,48 @@ pub fn place_of(rec: Record, lengths: &[u8; 16]) -> usize
     }
 }
 
+// What the bytes of a stage say that it demands of a resource, and that it weighs in a row; 0 where there is no such byte.
+fn demand_in(stage: &[u8], resource: u32) -> u32
+    ensures { λ r. ⌜ r ≡ at (stageIn (now (stage .entry)) .demand) resource ⌝ }
+{
+    if 32 < resource {
+        return 0;
+    }
+    entry_of(stage, resource)
+}
+
+fn weight_in(stage: &[u8], row: u32) -> u32
+    ensures { λ r. ⌜ r ≡ at (stageIn (now (stage .entry)) .weight) row ⌝ }
+{
+    if row < 1 {
+        return 0;
+    }
+    if 32 < row {
+        return 0;
+    }
+    entry_of(stage, row + 32)
+}
+
 // What stands under the record's key: of a C the section of the last record, else an entry.
 fn held<'a>(
     rec: Record,
     section: u32,
-    s: Stage,
+    stage: &'a [u8],
     capacity: &'a [u8; 32],
     lengths: &'a [u8; 16],
     bounded: &'a [u8; 32],
     rank: &'a [u8; 32],
 ) -> u32
-    ensures { λ r. ⌜ r ≡ heldBy section (now (capacity .entry)) (now (lengths .entry)) (now (bounded .entry)) (now (rank .entry)) s rec ⌝ }
+    ensures { λ r. ⌜ r ≡ heldBy section (now (capacity .entry)) (now (lengths .entry)) (now (bounded .entry)) (now (rank .entry)) (stageIn (now (stage .entry))) rec ⌝ }
 {
     let own = rec.section;
     match own {
         1 => section,
         2 => entry_of(capacity, rec.first),
         3 => entry_of(lengths, rec.first),
-        4 => entry_of(&s.demand, rec.third),
+        4 => demand_in(stage, rec.third),
         5 => entry_of(bounded, rec.first),
-        6 => entry_of(&s.weight, rec.first),
+        6 => weight_in(stage, rec.first),
         7 => entry_of(rank, rec.first),
         _ => 0,
     }
@@ -66,22 +88,22 @@ fn within_total(rec: Record, lengths: &[u8; 16]) -> bool
     total + rec.second as usize <= 128
 }
 
-// Questions 5 and 6 of a record, whose stage is s, and then 5 of all types together.
+// Questions 5 and 6 of a record, by the bytes of its stage, and then 5 of all types together.
 pub fn record_answer<'a>(
     rec: Record,
     head: Head,
-    s: Stage,
+    stage: &'a [u8],
     capacity: &'a [u8; 32],
     lengths: &'a [u8; 16],
     bounded: &'a [u8; 32],
     rank: &'a [u8; 32],
 ) -> TextAnswer
     ensures { λ r. ⌜ r ≡ recordAnswer (knownWith (head .counts) (now (capacity .entry)) (now (lengths .entry)))
-        (heldBy (head .section) (now (capacity .entry)) (now (lengths .entry)) (now (bounded .entry)) (now (rank .entry)) s rec)
+        (heldBy (head .section) (now (capacity .entry)) (now (lengths .entry)) (now (bounded .entry)) (now (rank .entry)) (stageIn (now (stage .entry))) rec)
         (now (lengths .entry)) rec ⌝ }
 {
     let counts = head.counts;
-    let before = held(rec, head.section, s, capacity, lengths, bounded, rank);
+    let before = held(rec, head.section, stage, capacity, lengths, bounded, rank);
     let ranged = in_ranges(rec, counts, capacity, lengths);
     let within = within_total(rec, lengths);
     let first = before == 0;

@@ -3,18 +3,19 @@ ghost use mathlib.Core.Path.{_≡_};
 ghost use lib.ListN.{length};
 ghost use Rattle.moves_text.specs.OutputLines.{aboutCheck, aboutText};
 ghost use Rattle.moves_text.specs.Space.{overlaid, overlaidAt};
-use model::Plan;
+ghost use Rattle.plan_bytes.specs.Over.{planOver};
 use output_lines::put_check_line;
 use output_lines::put_plan_line;
+use plan_bytes::Frame;
 use plan_numbers::check_first;
 use plan_numbers::check_number;
 use plan_numbers::check_second;
 use upstream::upstream_check;
 
-fn put_check(plan: Plan, space: &mut [u8], at: usize) -> usize
-    ensures { λ r. ⌜ (r ≡ length (aboutCheck plan)) × (now (space .exit) ≡ overlaidAt at (aboutCheck plan) (now (space .entry))) ⌝ }
+fn put_check(frame: Frame, stages: &[u8], space: &mut [u8], at: usize) -> usize
+    ensures { λ r. ⌜ (let p = planOver frame (now (stages .entry)) in (r ≡ length (aboutCheck p)) × (now (space .exit) ≡ overlaidAt at (aboutCheck p) (now (space .entry)))) ⌝ }
 {
-    let check = upstream_check(plan);
+    let check = upstream_check(frame, stages);
     put_check_line(
         check_number(check),
         check_first(check),
@@ -25,12 +26,12 @@ fn put_check(plan: Plan, space: &mut [u8], at: usize) -> usize
 }
 
 // By the number and the line of the reading, 0 where the text was accepted.
-pub fn put_about(number: u32, line: u32, plan: Plan, space: &mut [u8]) -> usize
-    ensures { λ r. ⌜ (r ≡ length (aboutText number line plan)) × (now (space .exit) ≡ overlaid (aboutText number line plan) (now (space .entry))) ⌝ }
+pub fn put_about(number: u32, line: u32, frame: Frame, stages: &[u8], space: &mut [u8]) -> usize
+    ensures { λ r. ⌜ (let p = planOver frame (now (stages .entry)) in (r ≡ length (aboutText number line p)) × (now (space .exit) ≡ overlaid (aboutText number line p) (now (space .entry)))) ⌝ }
 {
     let at = put_plan_line(number, line, space, 0);
     if number < 1 {
-        return at + put_check(plan, space, at);
+        return at + put_check(frame, stages, space, at);
     }
     at
 }

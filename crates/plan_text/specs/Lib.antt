@@ -8,5 +8,6 @@ pub mod Meaning
 pub mod TextQuestions
 pub mod Written
 pub mod Reading
+pub mod Framed
 -- What inner functions of the reader compute, and what their proofs go by; no promise rests on it.
 pub mod ReaderParts

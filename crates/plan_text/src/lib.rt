@@ -1,6 +1,7 @@
 // The plan text as values: a record of it, and what reading it answers. What a text means is defined in specs/, and nothing
 // runs here.
 use model::Plan;
+use plan_bytes::Frame;
 
 // Where the line that begins at a place of a text ends, where the next begins, whether it has its LF, and whether the text was at
 // its end, so that there is none.
@@ -59,11 +60,21 @@ pub struct Head {
 }
 
 // The answer with the line that decides it, counted from 1, that line's place in the text, from its first byte up to but not
-// including its LF, and the plan; the empty plan where the text is refused.
+// including its LF, and the plan; the empty plan where the text is refused. It is the meaning, and no code makes one.
 pub struct Reading {
     pub answer: TextAnswer,
     pub line: u32,
     pub from: usize,
     pub to: usize,
     pub plan: Plan,
+}
+
+// The same as it runs: the plan by its frame and the bytes of its stages, which are zeros where the text is refused.
+pub struct FramedReading {
+    pub answer: TextAnswer,
+    pub line: u32,
+    pub from: usize,
+    pub to: usize,
+    pub frame: Frame,
+    pub stages: [u8; 8192],
 }

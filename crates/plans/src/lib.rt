@@ -1,18 +1,13 @@
-// The empty plan, from which a plan is filled in.
+// The frame of the empty plan, from which a plan is filled in.
 ghost use mathlib.Core.Path.{_≡_};
-ghost use Rattle.model.specs.Plan.{emptyPlan};
-use model::Plan;
-use model::Stage;
+ghost use Rattle.plan_bytes.specs.Over.{emptyFrame};
+use plan_bytes::Frame;
 
-// The plan with nothing in it; it is not sound.
-pub fn empty_plan() -> Plan
-    ensures { λ r. ⌜ r ≡ emptyPlan ⌝ }
+// The frame with nothing in it; no plan of it is sound.
+pub fn empty_frame() -> Frame
+    ensures { λ r. ⌜ r ≡ emptyFrame ⌝ }
 {
-    let nothing = Stage {
-        demand: [0; 32],
-        weight: [0; 32],
-    };
-    Plan {
+    Frame {
         resources: 0,
         types: 0,
         rows: 0,
@@ -20,6 +15,5 @@ pub fn empty_plan() -> Plan
         rank: [0; 32],
         bound: [0; 32],
         lengths: [0; 16],
-        stages: [nothing; 128],
     }
 }

@@ -6,25 +6,22 @@ use mathlib.Core.Bool.{Bool, true, false, cond, false≢true}
 use mathlib.Core.List.{List, [], _∷_}
 use mathlib.Core.Logic.{⊎-elim}
 use mathlib.Core.Path.{_≡_, refl, sym, ap, subst, _∙_}
-use lib.Dec.{eqb, ltb, leb}
+use lib.Dec.{eqb, ltb}
 use lib.ListN.{length, take, drop, replicate, length-set}
 use Rattle.bytes.specs.Bytes.{slice, indexOf}
 use Rattle.model.specs.Limits.{maxResources, maxTypes, maxAllStages}
-use Rattle.model.specs.Numbers.{at, allTo}
+use Rattle.model.specs.Numbers.{at}
 use Rattle.model.specs.Plan.{emptyPlan}
-use Rattle.model.specs.Soundness.{sound}
-use Rattle.model.specs.declared.Plan.{Plan}
 use Rattle.model.proofs.Lists.{replicated}
 use Rattle.plan_text.specs.Lines.{Line, lineEnd, linesOf}
 use Rattle.plan_text.specs.Records.{Known, knownOf, recordIn, inRanges}
 use Rattle.plan_text.specs.Written.{Draft, emptyDraft, written, heldIn}
-use Rattle.plan_text.specs.Reading.{refused, accepted, withinTotal, isComplete, readFrom}
+use Rattle.plan_text.specs.Reading.{refused, withinTotal, readFrom}
 use Rattle.plan_text.specs.TextQuestions.{isAccepted}
 use Rattle.plan_text.specs.ReaderParts.{formAnswer, recordAnswer}
 use Rattle.plan_text.specs.declared.Record.{Record}
 use Rattle.plan_text.specs.declared.TextAnswer.{TextAnswer}
-use Rattle.plan_text.specs.declared.TextAnswer.the-variants.{Accepted, OutOfRange, Repeated, Incomplete}
-use Rattle.plan_text.specs.declared.Reading.{Reading}
+use Rattle.plan_text.specs.declared.TextAnswer.the-variants.{Accepted, OutOfRange, Repeated}
 use Rattle.plan_text.proofs.RecordLists.{entries-length}
 use Rattle.plan_text.proofs.LineByLine.{end-within, line-length, line-here, no-line}
 use Rattle.plan_text.proofs.ReaderSteps.{true-or-false, Few, few-after, small-after, form-refused, record-refused, line-read}
@@ -112,27 +109,3 @@ module _ (text : List ℕ) (d : Draft) (line from : ℕ) (going : Going text d l
             stages = length-set (d .plan .stages) _ _ ∙ going .stages;
           } in
           subst (λ x. Going text x (line + 1) (end + 1)) (sym made) on
-
--- question 7, asked of the plan and its marked rows
-module _ (p : Plan) (bounded : List ℕ) (line : ℕ) where
-  abbrev last : Draft
-  last = record { plan = p; bounded = bounded; section = 0 }
-
-  abbrev allBounded : Bool
-  allBounded = allTo (p .rows) (λ (w : ℕ). leb 1 (at bounded w))
-
-  abbrev incomplete : Plan → Reading
-  incomplete none = record { answer = Incomplete; line = line + 1; from = 0; to = 0; plan = none }
-
-  pub complete : sound p ≡ true → allBounded ≡ true → accepted p ≡ readFrom line 0 last []
-  unfolding isComplete
-  complete a b = rw (a, b) refl
-
-  module _ (none : Plan) (empty : none ≡ emptyPlan) where
-    pub unsound : sound p ≡ false → incomplete none ≡ readFrom line 0 last []
-    unfolding isComplete
-    unsound a = ap incomplete empty ∙ rw a refl
-
-    pub unbounded : sound p ≡ true → allBounded ≡ false → incomplete none ≡ readFrom line 0 last []
-    unfolding isComplete
-    unbounded a b = ap incomplete empty ∙ rw (a, b) refl

@@ -2,78 +2,77 @@
 // per type and the one entry that it names, and its record writes that entry.
 ghost use mathlib.Core.List.{[]};
 ghost use mathlib.Core.Path.{_≡_};
-ghost use Prim.Native.Nat.{_-_, _<_, _≤_};
+ghost use Prim.Native.Nat.{_+_, _-_, _*_, _<_, _≤_};
 ghost use lib.Dec.{ltb};
 ghost use lib.ListN.{length, take, drop};
+ghost use Rattle.plan_bytes.specs.Over.{planOver};
 ghost use Rattle.plan_text.specs.Lines.{linesOf};
 ghost use Rattle.plan_text.specs.Written.{emptyDraft, indexIn};
-ghost use Rattle.plan_text.specs.Reading.{refused, readFrom, reading};
-ghost use Rattle.plan_text.specs.ReaderParts.{formOf, planWith};
-use model::Plan;
-use model::Stage;
+ghost use Rattle.plan_text.specs.Reading.{refused, isComplete, readFrom, reading};
+ghost use Rattle.plan_text.specs.Framed.{readingFrom};
+ghost use Rattle.plan_text.specs.ReaderParts.{formOf};
+use plan_bytes::Frame;
 use plan_entries::all_bounded;
 use plan_entries::place_of;
 use plan_entries::record_answer;
 use plan_text::Counts;
 use plan_text::Form;
+use plan_text::FramedReading;
 use plan_text::Head;
-use plan_text::Reading;
 use plan_text::Record;
 use plan_text::TextAnswer;
-use plans::empty_plan;
+use plans::empty_frame;
 use record_lines::form_of;
 use record_writes::head_after;
-use record_writes::stage_after;
 use record_writes::write_bound;
 use record_writes::write_entries;
+use record_writes::write_stage;
 use soundness::is_sound;
 use text_lines::line_end;
 
-fn refusal(answer: TextAnswer, line: u32, from: usize, to: usize) -> Reading
-    ensures { λ r. ⌜ r ≡ refused answer line from to ⌝ }
+fn refusal(answer: TextAnswer, line: u32, from: usize, to: usize) -> FramedReading
+    ensures { λ r. ⌜ readingFrom r ≡ refused answer line from to ⌝ }
 {
-    Reading {
+    FramedReading {
         answer,
         line,
         from,
         to,
-        plan: empty_plan(),
+        frame: empty_frame(),
+        stages: [0; 8192],
     }
 }
 
 // Question 7, asked of the draft after the last line.
-fn finished(plan: Plan, bounded: &[u8; 32], line: u32) -> Reading
-    requires { ⌜ line < 4294967295 ⌝ }
-    ensures { λ r. ⌜ r ≡ readFrom line 0 (record { plan = plan; bounded = now (bounded .entry); section = 0 }) [] ⌝ }
+fn is_complete<'a>(frame: Frame, stages: &'a [u8], bounded: &'a [u8; 32]) -> bool
+    ensures { λ r. ⌜ r ≡ isComplete (record { plan = planOver frame (now (stages .entry)); bounded = now (bounded .entry); section = 0 }) ⌝ }
 {
-    let none = empty_plan();
-    let after = line + 1;
-    if is_sound(plan) {
-        if all_bounded(bounded, plan.rows) {
-            return Reading {
-                answer: TextAnswer::Accepted,
-                line: 0,
-                from: 0,
-                to: 0,
-                plan,
-            };
-        }
+    is_sound(frame, stages) && all_bounded(bounded, frame.rows)
+}
+
+fn finished(frame: Frame, stages: [u8; 8192], bounded: &[u8; 32], line: u32) -> FramedReading
+    requires { ⌜ line < 4294967295 ⌝ }
+    ensures { λ r. ⌜ readingFrom r ≡ readFrom line 0 (record { plan = planOver frame stages; bounded = now (bounded .entry); section = 0 }) [] ⌝ }
+{
+    if !is_complete(frame, &stages, bounded) {
+        return refusal(TextAnswer::Incomplete, line + 1, 0, 0);
     }
-    Reading {
-        answer: TextAnswer::Incomplete,
-        line: after,
+    FramedReading {
+        answer: TextAnswer::Accepted,
+        line: 0,
         from: 0,
         to: 0,
-        plan: none,
+        frame,
+        stages,
     }
 }
 
-// Where the record's stage stands; 0 where that is beyond the stages, which its ranges then refuse.
-fn place_within(rec: Record, lengths: &[u8; 16]) -> usize
-    ensures { λ r. ⌜ (r < 128) × (indexIn (now (lengths .entry)) rec < 128 → r ≡ indexIn (now (lengths .entry)) rec) ⌝ }
+// Where the bytes of the record's stage begin; 0 where that is beyond the stages, which its ranges then refuse.
+fn stage_offset(rec: Record, lengths: &[u8; 16]) -> usize
+    ensures { λ r. ⌜ (r + 64 ≤ 8192) × (indexIn (now (lengths .entry)) rec < 128 → r ≡ indexIn (now (lengths .entry)) rec * 64) ⌝ }
 {
     let place = place_of(rec, lengths);
-    if place < 128 { place } else { 0 }
+    if place < 128 { place * 64 } else { 0 }
 }
 
 // Questions 2 to 4 of the line that ends at `end`, where its LF stands or the text ends.
@@ -84,19 +83,18 @@ fn form_at(text: &[u8], at: usize, end: usize, section: u32) -> Form
     form_of(&text[at..end], end < text.len(), section)
 }
 
-// The plan that was filled in.
-fn plan_with(
+// The frame that was filled in.
+fn frame_with(
     head: Head,
     capacity: [u8; 32],
     rank: [u8; 32],
     bound: [u16; 32],
     lengths: [u8; 16],
-    stages: [Stage; 128],
-) -> Plan
-    ensures { λ r. ⌜ r ≡ planWith (head .counts) capacity rank bound lengths stages ⌝ }
+) -> Frame
+    ensures { λ r. ⌜ r ≡ record { resources = head .counts .resources; types = head .counts .types; rows = head .counts .rows; capacity = capacity; rank = rank; bound = bound; lengths = lengths } ⌝ }
 {
     let counts = head.counts;
-    Plan {
+    Frame {
         resources: counts.resources,
         types: counts.types,
         rows: counts.rows,
@@ -104,7 +102,6 @@ fn plan_with(
         rank,
         bound,
         lengths,
-        stages,
     }
 }
 
@@ -120,9 +117,9 @@ fn no_head() -> Head
     Head { counts, section: 0 }
 }
 
-fn read_lines(text: &[u8]) -> Reading
+fn read_lines(text: &[u8]) -> FramedReading
     requires { do ⌜ (← ⟦text.len()⟧) ≤ 65536 ⌝ }
-    ensures { λ r. ⌜ r ≡ readFrom 0 0 emptyDraft (linesOf (now (text .entry))) ⌝ }
+    ensures { λ r. ⌜ readingFrom r ≡ readFrom 0 0 emptyDraft (linesOf (now (text .entry))) ⌝ }
 {
     let mut head = no_head();
     let mut capacity = [0u8; 32];
@@ -130,8 +127,7 @@ fn read_lines(text: &[u8]) -> Reading
     let mut bound = [0u16; 32];
     let mut lengths = [0u8; 16];
     let mut bounded = [0u8; 32];
-    let none = empty_plan();
-    let mut stages = none.stages;
+    let mut stages = [0u8; 8192];
     let mut line = 0;
     let mut at = 0;
     while at < text.len() {
@@ -144,25 +140,26 @@ fn read_lines(text: &[u8]) -> Reading
         let TextAnswer::Accepted = answer else {
             return refusal(answer, line, at, end);
         };
-        let i = place_within(rec, &lengths);
-        let s = stages[i];
-        let asked = record_answer(rec, head, s, &capacity, &lengths, &bounded, &rank);
+        let from = stage_offset(rec, &lengths);
+        let to = from + 64;
+        let stage = &stages[from..to];
+        let asked = record_answer(rec, head, stage, &capacity, &lengths, &bounded, &rank);
         let TextAnswer::Accepted = asked else {
             return refusal(asked, line, at, end);
         };
-        stages[i] = stage_after(s, rec);
+        write_stage(rec, &mut stages[from..to]);
         write_entries(rec, &mut capacity, &mut lengths, &mut rank);
         write_bound(rec, &mut bound, &mut bounded);
         head = head_after(head, rec);
         at = next;
     }
-    let plan = plan_with(head, capacity, rank, bound, lengths, stages);
-    finished(plan, &bounded, line)
+    let frame = frame_with(head, capacity, rank, bound, lengths);
+    finished(frame, stages, &bounded, line)
 }
 
 // A plan text read: the answer with the line that decides it and that line's place in the text, and the plan.
-pub fn read(text: &[u8]) -> Reading
-    ensures { λ r. ⌜ r ≡ reading (now (text .entry)) ⌝ }
+pub fn read(text: &[u8]) -> FramedReading
+    ensures { λ r. ⌜ readingFrom r ≡ reading (now (text .entry)) ⌝ }
 {
     if 65536 < text.len() {
         return refusal(TextAnswer::TooLong, 0, 0, 0);

@@ -1,41 +1,28 @@
 // What a record writes into a plan: one entry of a list, or of a stage, or the counts. Any record may be handed in.
 ghost use mathlib.Core.Path.{_≡_};
 ghost use Prim.Native.Nat.{_%_};
-ghost use Rattle.plan_text.specs.Written.{put, entriesAfter, boundedAfter, stageAfter};
+ghost use Rattle.plan_text.specs.Written.{entriesAfter, boundedAfter};
 ghost use Rattle.plan_text.specs.ReaderParts.{narrowed, countsAfter, headAfter};
+ghost use Rattle.record_writes.specs.StageBytes.{bytesAfter};
 use entries::put_bound;
 use entries::put_entry;
-use model::Stage;
 use plan_text::Counts;
 use plan_text::Head;
 use plan_text::Record;
 
-fn with_entry(xs: [u8; 32], number: u32, x: u8) -> [u8; 32]
-    ensures { λ r. ⌜ r ≡ put xs number x ⌝ }
+// The 64 bytes of a stage, with the demand of an S or the weight of an A.
+pub fn write_stage(rec: Record, stage: &mut [u8])
+    ensures { λ _. ⌜ now (stage .exit) ≡ bytesAfter (now (stage .entry)) (narrowed rec) ⌝ }
 {
-    let mut next = xs;
-    put_entry(&mut next, number, x);
-    next
-}
-
-// The stage with the demand of an S or the weight of an A.
-pub fn stage_after(s: Stage, rec: Record) -> Stage
-    ensures { λ r. ⌜ r ≡ stageAfter s (narrowed rec) ⌝ }
-{
+    if stage.len() != 64 {
+        return;
+    }
     let section = rec.section;
     let x = (rec.fourth % 256) as u8;
-    let demand = s.demand;
-    let weight = s.weight;
     match section {
-        4 => Stage {
-            demand: with_entry(demand, rec.third, x),
-            weight,
-        },
-        6 => Stage {
-            demand,
-            weight: with_entry(weight, rec.first, x),
-        },
-        _ => s,
+        4 => put_entry(&mut stage[0..32], rec.third, x),
+        6 => put_entry(&mut stage[32..64], rec.first, x),
+        _ => {}
     }
 }
 

@@ -30,7 +30,7 @@ pub fn respell(text: &[u8], space: &mut [u8]) -> usize
     let answer = reading.answer;
     let number = text_number(answer);
     if number == 0 {
-        let written = write_plan(reading.plan, space);
+        let written = write_plan(reading.frame, &reading.stages, space);
         return written.length;
     }
     put_refusal(number, reading.line, space)

@@ -4,12 +4,14 @@ ghost use mathlib.Core.Path.{_≡_};
 ghost use Prim.Native.Nat.{_≤_};
 ghost use Rattle.moves_text.specs.Output.{output};
 ghost use Rattle.moves_text.specs.Space.{filled, lengthFilled};
-ghost use Rattle.cell_layout.specs.HostAnswers.{packed, readAnswer, readCell, writeAnswer, writtenSpace, checkAnswer, eventAnswer, eventCell, drainAnswer, drainCell};
+ghost use Rattle.cell_layout.specs.HostAnswers.{packed, readAnswer, readCell, shownAnswer, writeAnswer, writtenSpace, checkAnswer, eventAnswer, eventCell, drainAnswer, drainCell};
 use cell_events::drain_at;
 use cell_events::event_at;
 use cell_events::pack;
-use cell_reads::CELL;
-use cell_reads::plan_in;
+use cell_layout::CELL;
+use cell_layout::JOB_COUNT;
+use cell_layout::STAGES;
+use cell_reads::frame_in;
 use cell_writes::put_plan;
 use events::Event;
 use plan_numbers::check_first;
@@ -22,18 +24,12 @@ use upstream::upstream_check;
 use whole_run::answer_input;
 use writer::write_plan;
 
-fn u32_to_u64(x: u32) -> u64
-    ensures { λ r. ⌜ (r ≡ x) × (r ≤ 4294967295) ⌝ }
-{
-    x as u64
-}
-
 // A number with two places, the check's alone: all other answers have one.
 fn pack_two(number: u32, first: u32, second: u32) -> u64
     requires { ⌜ (number ≤ 65535) × (second ≤ 65535) ⌝ }
     ensures { λ r. ⌜ r ≡ packed number first second ⌝ }
 {
-    u32_to_u64(number) + 65536 * u32_to_u64(second) + 4294967296 * u32_to_u64(first)
+    number as u64 + 65536 * (second as u64) + 4294967296 * (first as u64)
 }
 
 #[no_mangle]
@@ -81,8 +77,20 @@ pub extern "C" fn rilthoss_read_plan(cell: &mut [u8], text: &[u8]) -> u64
     }
     let reading = read(text);
     let answer = reading.answer;
-    put_plan(reading.plan, cell);
+    let frame = reading.frame;
+    put_plan(frame, &reading.stages, cell);
     pack(text_number(answer), reading.line)
+}
+
+// Where in a text the line that its refusal is about begins and ends.
+#[no_mangle]
+pub extern "C" fn rilthoss_shown(text: &[u8]) -> u64
+    ensures { λ r. ⌜ r ≡ shownAnswer (now (text .entry)) ⌝ }
+{
+    let reading = read(text);
+    let from = reading.from as u64;
+    let to = reading.to as u64;
+    from + 4294967296 * to
 }
 
 // The spelling of the plan, written into the space; the place is its length.
@@ -93,7 +101,8 @@ pub extern "C" fn rilthoss_write_plan<'a>(cell: &'a [u8], space: &'a mut [u8]) -
     if cell.len() < CELL {
         return 9;
     }
-    let written = write_plan(plan_in(cell), space);
+    let frame = frame_in(cell);
+    let written = write_plan(frame, &cell[STAGES..JOB_COUNT], space);
     let answer = written.answer;
     pack(write_number(answer), written.length as u32)
 }
@@ -106,7 +115,8 @@ pub extern "C" fn rilthoss_check(cell: &[u8]) -> u64
     if cell.len() < CELL {
         return 9;
     }
-    let check = upstream_check(plan_in(cell));
+    let frame = frame_in(cell);
+    let check = upstream_check(frame, &cell[STAGES..JOB_COUNT]);
     let number = check_number(check);
     let first = check_first(check);
     let second = check_second(check);

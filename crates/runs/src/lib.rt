@@ -2,12 +2,13 @@
 ghost use mathlib.Core.Path.{_≡_};
 ghost use mathlib.Core.Bool.{cond};
 ghost use Rattle.events.specs.Events.{isAdmitted};
+ghost use Rattle.plan_bytes.specs.Over.{planOver};
 ghost use Rattle.runs.specs.Run.{eventOf, eventsOf, ran};
 use admission::Outcome;
 use admission::Table;
 use events::Answer;
-use model::Plan;
 use numbers::answer_number;
+use plan_bytes::Frame;
 
 // The table after a list of events, and how many were admitted.
 pub struct Ran {
@@ -34,20 +35,20 @@ fn counted(o: Outcome) -> Ran
 }
 
 // One event: L loads, A advances, U unloads, X pulls, as in an event line; another letter is no event.
-fn step(t: Table, p: Plan, letter: u8, job: u32, kind: u32) -> Ran
-    ensures { λ r. ⌜ r ≡ ran p t (eventOf letter job kind) ⌝ }
+fn step(t: Table, frame: Frame, stages: &[u8], letter: u8, job: u32, kind: u32) -> Ran
+    ensures { λ r. ⌜ r ≡ ran (planOver frame (now (stages .entry))) t (eventOf letter job kind) ⌝ }
 {
     if letter == b'L' {
-        return counted(t.load(p, job, kind));
+        return counted(t.load(frame, stages, job, kind));
     }
     if letter == b'A' {
-        return counted(t.advance(p, job));
+        return counted(t.advance(frame, stages, job));
     }
     if letter == b'U' {
-        return counted(t.unload(p, job));
+        return counted(t.unload(frame, stages, job));
     }
     if letter == b'X' {
-        return counted(t.pull(p, job));
+        return counted(t.pull(frame, stages, job));
     }
     Ran {
         table: t,
@@ -56,14 +57,21 @@ fn step(t: Table, p: Plan, letter: u8, job: u32, kind: u32) -> Ran
 }
 
 // The events are as many as the shortest slice has.
-pub fn run(t: Table, p: Plan, letters: &[u8], jobs: &[u32], kinds: &[u32]) -> Ran
-    ensures { λ r. ⌜ r ≡ ran p t (eventsOf (now (letters .entry)) (now (jobs .entry)) (now (kinds .entry))) ⌝ }
+pub fn run(
+    t: Table,
+    frame: Frame,
+    stages: &[u8],
+    letters: &[u8],
+    jobs: &[u32],
+    kinds: &[u32],
+) -> Ran
+    ensures { λ r. ⌜ r ≡ ran (planOver frame (now (stages .entry))) t (eventsOf (now (letters .entry)) (now (jobs .entry)) (now (kinds .entry))) ⌝ }
 {
     let mut t = t;
     let mut admitted = 0;
     let mut i = 0;
     while i < letters.len() && i < jobs.len() && i < kinds.len() {
-        let next = step(t, p, letters[i], jobs[i], kinds[i]);
+        let next = step(t, frame, stages, letters[i], jobs[i], kinds[i]);
         t = next.table;
         admitted += next.admitted;
         i += 1;

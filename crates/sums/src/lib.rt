@@ -4,18 +4,21 @@ ghost use mathlib.Core.Path.{_≡_};
 ghost use Prim.Native.Nat.{_+_, _-_, _≤_, min};
 ghost use Rattle.model.specs.Limits.{maxJobs};
 ghost use Rattle.events.specs.JobList.{jobsOf};
-ghost use Rattle.parts.specs.Parts.{indexIn, sumsOf, lowestAfter, greatestAfter, worstAfter, keptAfter};
+ghost use Rattle.plan_bytes.specs.Over.{planOver, stageAt};
+ghost use Rattle.parts.specs.Parts.{indexIn, sumsOf, lowestAfter, worstAfter, keptAfter};
 ghost use Rattle.parts.specs.Parts.{Few, Added};
+ghost use Rattle.parts.specs.JobNumbers.{listOver};
 use events::Answer;
-use events::JobList;
+use joblists::job_at;
 use model::Job;
-use model::Plan;
-use model::Stage;
 use parts::Ceilings;
 use parts::Sums;
 use parts::WorstRow;
+use plan_bytes::Frame;
+use stages::demands_at;
 use stages::length_of;
 use stages::stage_index;
+use stages::weights_at;
 
 fn u8_to_u16(x: u8) -> u16
     ensures { λ r. ⌜ (r ≡ x) × (r ≤ 255) ⌝ }
@@ -35,30 +38,31 @@ fn u16_to_u32(x: u16) -> u32
     x as u32
 }
 
-// Adds a stage's amounts: 64 of 255 come to 16,320.
-fn add(amounts: &mut [u16; 32], more: &[u8; 32])
+// The amounts with a stage's more: 64 of 255 come to 16,320. A fresh array: amounts changed in place are not vectorised.
+fn added<'a>(amounts: &'a [u16; 32], more: &'a [u8; 32]) -> [u16; 32]
     requires { ⌜ Few 16065 (now amounts) ⌝ }
-    ensures { λ _. ⌜ Added (now (amounts .entry)) (now (more .entry)) (now (amounts .exit)) ⌝ }
+    ensures { λ r. ⌜ Added (now (amounts .entry)) (now (more .entry)) r ⌝ }
 {
+    let mut sums = [0; 32];
     let mut i = 0;
     while i < 32 {
-        amounts[i] = amounts[i] + u8_to_u16(more[i]);
+        sums[i] = amounts[i] + u8_to_u16(more[i]);
         i += 1;
     }
+    sums
 }
 
-// The sums with the demands and weights of a stage more.
-fn with_stage(sums: Sums, s: Stage) -> Sums
+// The sums with the demands and weights of the stage at an index more.
+fn with_stage(sums: Sums, stages: &[u8], at: usize) -> Sums
     requires { ⌜ Few 16065 (sums .units) × Few 16065 (sums .rows) ⌝ }
-    ensures { λ r. ⌜ Added (sums .units) (s .demand) (r .units) × Added (sums .rows) (s .weight) (r .rows) ⌝ }
+    ensures { λ r. ⌜ Added (sums .units) (stageAt (now (stages .entry)) at .demand) (r .units) × Added (sums .rows) (stageAt (now (stages .entry)) at .weight) (r .rows) ⌝ }
 {
-    let mut units = sums.units;
-    let demand = s.demand;
-    add(&mut units, &demand);
-    let mut rows = sums.rows;
-    let weight = s.weight;
-    add(&mut rows, &weight);
-    Sums { units, rows }
+    let demands = demands_at(stages, at);
+    let weights = weights_at(stages, at);
+    Sums {
+        units: added(&sums.units, &demands),
+        rows: added(&sums.rows, &weights),
+    }
 }
 
 // As many jobs as the count says, where there are slots for them.
@@ -88,26 +92,24 @@ fn index_of(lengths: &[u8; 16], types: u32, j: Job) -> usize
 }
 
 // The sums over the jobs: one pass over them. A job at no stage of the plan demands and weighs nothing.
-pub fn sums_of(p: Plan, t: JobList) -> Sums
-    ensures { λ r. ⌜ r ≡ sumsOf p (jobsOf t) ⌝ }
+pub fn sums_of<'a>(frame: Frame, stages: &'a [u8], count: usize, jobs: &'a [u32; 192]) -> Sums
+    ensures { λ r. ⌜ r ≡ sumsOf (planOver frame (now (stages .entry))) (jobsOf (listOver count (now (jobs .entry)))) ⌝ }
 {
-    let types = p.types as u32;
-    let lengths = p.lengths;
-    let n = within(t.count);
     let mut sums = Sums {
         units: [0; 32],
         rows: [0; 32],
     };
+    if stages.len() != 8192 {
+        return sums;
+    }
+    let types = frame.types as u32;
+    let n = within(count);
     let mut i = 0;
     while i < n {
-        let j = t.jobs[i];
+        let j = job_at(jobs, i);
+        let at = index_of(&frame.lengths, types, j);
+        sums = with_stage(sums, stages, at);
         i += 1;
-        let at = index_of(&lengths, types, j);
-        if 128 <= at {
-            continue;
-        }
-        let s = p.stages[at];
-        sums = with_stage(sums, s);
     }
     sums
 }
@@ -131,8 +133,13 @@ fn excess_after(amount: u16, old: u8, new: u8, ceiling: u16) -> u32
     less(left + u8_to_u32(new), u16_to_u32(ceiling))
 }
 
-// The lowest amount above its ceiling once the old is given back and the new taken; 0 for none.
-fn lowest_above(amounts: &[u16; 32], old: &[u8; 32], new: &[u8; 32], ceilings: &[u16; 32]) -> u32
+// The capacity test: the lowest amount above its ceiling once the old is given back and the new taken; 0 for none.
+fn lowest_above<'a>(
+    amounts: &'a [u16; 32],
+    old: &'a [u8; 32],
+    new: &'a [u8; 32],
+    ceilings: &'a [u16; 32],
+) -> u32
     ensures { λ r. ⌜ r ≡ lowestAfter 32 (now (amounts .entry)) (now (old .entry)) (now (new .entry)) (now (ceilings .entry)) ⌝ }
 {
     let mut i = 0;
@@ -145,15 +152,21 @@ fn lowest_above(amounts: &[u16; 32], old: &[u8; 32], new: &[u8; 32], ceilings: &
     0
 }
 
-// The amount above its ceiling by the most once the old is given back and the new taken, of equals the lowest, and by how much; 0 and 0 for none.
-fn most_above(amounts: &[u16; 32], old: &[u8; 32], new: &[u8; 32], ceilings: &[u16; 32]) -> WorstRow
-    ensures { λ r. ⌜ r ≡ greatestAfter 32 (now (amounts .entry)) (now (old .entry)) (now (new .entry)) (now (ceilings .entry)) ⌝ }
+// The row test: by the sums, what a job's old stage and its new one weigh, and the bounds, the row exceeded by the most, of equals the lowest, and
+// its excess; 0 and 0 where every row is kept.
+pub fn worst_row<'a>(
+    sums: &'a [u16; 32],
+    old: &'a [u8; 32],
+    new: &'a [u8; 32],
+    bounds: &'a [u16; 32],
+) -> WorstRow
+    ensures { λ r. ⌜ r ≡ worstAfter (now (sums .entry)) (now (old .entry)) (now (new .entry)) (now (bounds .entry)) ⌝ }
 {
     let mut row = 0;
     let mut excess = 0;
     let mut i = 0;
     while i < 32 {
-        let above = excess_after(amounts[i], old[i], new[i], ceilings[i]);
+        let above = excess_after(sums[i], old[i], new[i], bounds[i]);
         if excess < above {
             row = (i + 1) as u32;
             excess = above;
@@ -163,34 +176,28 @@ fn most_above(amounts: &[u16; 32], old: &[u8; 32], new: &[u8; 32], ceilings: &[u
     WorstRow { row, excess }
 }
 
-// The capacity test: the lowest resource exceeded.
-fn exceeded(sums: Sums, old: Stage, new: Stage, ceilings: Ceilings) -> u32
-    ensures { λ r. ⌜ r ≡ lowestAfter 32 (sums .units) (old .demand) (new .demand) (ceilings .capacity) ⌝ }
+fn exceeded(sums: Sums, stages: &[u8], old: usize, new: usize, ceilings: Ceilings) -> u32
+    ensures { λ r. ⌜ r ≡ lowestAfter 32 (sums .units) (stageAt (now (stages .entry)) old .demand) (stageAt (now (stages .entry)) new .demand) (ceilings .capacity) ⌝ }
 {
-    let amounts = sums.units;
-    let given_back = old.demand;
-    let taken = new.demand;
-    let capacity = ceilings.capacity;
-    lowest_above(&amounts, &given_back, &taken, &capacity)
+    let given_back = demands_at(stages, old);
+    let taken = demands_at(stages, new);
+    lowest_above(&sums.units, &given_back, &taken, &ceilings.capacity)
 }
 
-// The row test: the row exceeded by the most, of equals the lowest, and its excess; 0 and 0 where every row is kept.
-pub fn worst_row(sums: Sums, old: Stage, new: Stage, ceilings: Ceilings) -> WorstRow
-    ensures { λ r. ⌜ r ≡ worstAfter sums old new ceilings ⌝ }
+fn broken(sums: Sums, stages: &[u8], old: usize, new: usize, ceilings: Ceilings) -> WorstRow
+    ensures { λ r. ⌜ r ≡ worstAfter (sums .rows) (stageAt (now (stages .entry)) old .weight) (stageAt (now (stages .entry)) new .weight) (ceilings .bound) ⌝ }
 {
-    let amounts = sums.rows;
-    let given_back = old.weight;
-    let taken = new.weight;
-    let bound = ceilings.bound;
-    most_above(&amounts, &given_back, &taken, &bound)
+    let given_back = weights_at(stages, old);
+    let taken = weights_at(stages, new);
+    worst_row(&sums.rows, &given_back, &taken, &ceilings.bound)
 }
 
-// Questions 18 and 19 once one stage is exchanged for another.
-pub fn kept_after(sums: Sums, old: Stage, new: Stage, ceilings: Ceilings) -> Answer
-    ensures { λ r. ⌜ r ≡ keptAfter sums old new ceilings ⌝ }
+// Questions 18 and 19 once the stage at one index is exchanged for that at another; there is none at an index beyond the last.
+pub fn kept_after(sums: Sums, stages: &[u8], old: usize, new: usize, ceilings: Ceilings) -> Answer
+    ensures { λ r. ⌜ r ≡ keptAfter sums (stageAt (now (stages .entry)) old) (stageAt (now (stages .entry)) new) ceilings ⌝ }
 {
-    let resource = exceeded(sums, old, new, ceilings);
-    let worst = worst_row(sums, old, new, ceilings);
+    let resource = exceeded(sums, stages, old, new, ceilings);
+    let worst = broken(sums, stages, old, new, ceilings);
     let row = worst.row;
     if resource != 0 {
         return Answer::OverCapacity(resource);

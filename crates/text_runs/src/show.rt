@@ -48,7 +48,7 @@ fn answered(text: &[u8]) {
     number(shown.len() as u64);
     write(b"\t");
     part(shown);
-    crate::plan::show(r.plan);
+    crate::plan::show(r.frame, &r.stages);
 }
 
 // The text is the first n bytes of the space.

@@ -2,4 +2,5 @@
 pub mod Stages
 pub mod RowSearch
 pub mod TypeEnds
+pub mod LentStage
 pub mod RowWalk

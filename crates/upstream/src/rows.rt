@@ -5,9 +5,10 @@ ghost use Rattle.model.specs.Numbers.{at, inRange, lowest};
 ghost use Rattle.model.specs.Plan.{allStages};
 ghost use Rattle.model.specs.Soundness.{Sound};
 ghost use Rattle.model.specs.Upstream.{faultyRow};
+ghost use Rattle.plan_bytes.specs.Over.{planOver};
 ghost use Rattle.upstream.specs.Parts.{StretchRanks};
 use crate::position::u8_to_usize;
-use model::Plan;
+use plan_bytes::Frame;
 use upstream_rows::due_weight;
 
 // The number of the row at which a search of n rows was left; 0 where it was not.
@@ -27,21 +28,22 @@ fn u8_to_u16(x: u8) -> u16
 // The lowest row that is not weighted 1 at every stage upstream of its resource and 0 elsewhere; 0 for none. The stages are
 // gone through from the end, since a stage is upstream by what the stage after it is; the ranks let no stretch go on past a
 // type's last.
-pub(crate) fn faulty_row(p: Plan, end: usize, ranks: [u16; 128]) -> u32
-    requires { ⌜ Sound p × (end ≡ allStages p) × StretchRanks p ranks ⌝ }
-    ensures { λ r. ⌜ r ≡ faultyRow p ⌝ }
+pub(crate) fn faulty_row(frame: Frame, stages: &[u8], end: usize, ranks: [u16; 128]) -> u32
+    requires { ⌜ (let p = planOver frame (now stages) in Sound p × (end ≡ allStages p) × StretchRanks p ranks) ⌝ }
+    ensures { λ r. ⌜ r ≡ faultyRow (planOver frame (now (stages .entry))) ⌝ }
 {
-    let rows = u8_to_usize(p.rows);
+    let rows = u8_to_usize(frame.rows);
     let mut row = 0;
     'rows: while row < rows {
-        let limit = u8_to_u16(p.rank[row]);
+        let limit = u8_to_u16(frame.rank[row]);
         let mut index = end;
         let mut due = 0;
         'stages: while 0 < index {
             index -= 1;
-            let s = p.stages[index];
-            due = due_weight(s.demand[row], ranks[index], limit, due);
-            if s.weight[row] != due {
+            let demand = index * 64 + row;
+            let weight = demand + 32;
+            due = due_weight(stages[demand], ranks[index], limit, due);
+            if stages[weight] != due {
                 break 'rows;
             }
         }

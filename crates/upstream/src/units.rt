@@ -1,6 +1,8 @@
 // Does every stage demand exactly one unit of one resource, and of what rank?
+ghost use Rattle.model.specs.Soundness.{Sound};
+ghost use Rattle.plan_bytes.specs.Over.{planOver};
 ghost use Rattle.upstream.specs.Parts.{FirstOther, LowestRanks};
-use model::Plan;
+use plan_bytes::Frame;
 use upstream_rows::lowest_rank;
 use upstream_rows::one_unit;
 
@@ -11,17 +13,19 @@ pub(crate) struct Units {
 }
 
 // One pass over the stages. It ends at the end of the stages at the latest, since nothing is demanded beyond.
-pub(crate) fn units_of(p: Plan) -> Units
-    ensures { λ r. ⌜ FirstOther p (r .other) × LowestRanks p (r .other) (r .ranks) ⌝ }
+pub(crate) fn units_of(frame: Frame, stages: &[u8]) -> Units
+    requires { ⌜ Sound (planOver frame (now stages)) ⌝ }
+    ensures { λ r. ⌜ (let p = planOver frame (now (stages .entry)) in FirstOther p (r .other) × LowestRanks p (r .other) (r .ranks)) ⌝ }
 {
     let mut ranks = [0; 128];
     let mut other = 0;
     while other < 128 {
-        let s = p.stages[other];
-        if !one_unit(s, p.resources) {
+        let from = other * 64;
+        let middle = from + 32;
+        if !one_unit(&stages[from..middle], frame.resources) {
             break;
         }
-        ranks[other] = lowest_rank(s, &p.rank, p.resources);
+        ranks[other] = lowest_rank(&stages[from..middle], &frame.rank, frame.resources);
         other += 1;
     }
     Units { other, ranks }

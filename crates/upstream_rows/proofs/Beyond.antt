@@ -1,5 +1,6 @@
--- A stage demands nothing beyond its entries, so a loop over those has seen all that counts.
-use Prim.Native.Nat.{ℕ, zero, suc, _≤_, _<_}
+-- Nothing is demanded beyond the entries that are lent, so a loop over those has seen all that counts.
+use Prim.Native.Nat.{ℕ, zero, suc, _≤_, min}
+use native.Mathlib.Nat.{le-refl}
 use native.Mathlib.Omega.{arith}
 use mathlib.Core.List.{List}
 use mathlib.Core.Logic.{⊎-elim}
@@ -23,16 +24,16 @@ module _ (demand rank : List ℕ) where
       (λ (h : ¬ (n ≤ m)). let e : n ≡ suc m = omega arith in rw e refl)
       (decided (decides-le n m))
 
--- of the resources, n are those that have entries
-module _ (demand : List ℕ) (long : length demand ≡ 32) (n resources : ℕ) (entries : (n ≤ resources) × (n ≤ 32) × (n < resources → n ≡ 32)) where
-  all-seen : (f : ℕ → ℕ) → (length demand ≤ n → f resources ≡ f n) → f resources ≡ f n
-  all-seen f beyond =
-      ⊎-elim (λ (h : suc n ≤ resources). beyond (omega (arith, entries .2 h)))
-      (λ (h : ¬ (suc n ≤ resources)). let e : n ≡ resources = omega arith in rw e refl)
-      (decided (decides-le (suc n) resources))
+-- so a count of them, and as many of it as there are entries, come to the same
+module _ (demand : List ℕ) where
+  all-seen : (f : ℕ → ℕ) (m : ℕ) → (length demand ≤ m → f m ≡ f (length demand)) → f m ≡ f (min m (length demand))
+  all-seen f m beyond =
+      ⊎-elim (λ (h : length demand ≤ m). let e : min m (length demand) ≡ length demand = omega arith in rw e (beyond h))
+      (λ (h : ¬ (length demand ≤ m)). let e : min m (length demand) ≡ m = omega arith in rw e refl)
+      (decided (decides-le (length demand) m))
 
-  pub units-seen : sumTo resources (at demand) ≡ sumTo n (at demand)
-  units-seen = all-seen (λ m. sumTo m (at demand)) (λ short. sum-beyond demand n resources short (entries .0))
+  pub units-seen : (m : ℕ) → sumTo m (at demand) ≡ sumTo (min m (length demand)) (at demand)
+  units-seen m = all-seen (λ n. sumTo n (at demand)) m (sum-beyond demand (length demand) m (le-refl _))
 
-  pub ranks-seen : (rank : List ℕ) → lowestRank resources demand rank ≡ lowestRank n demand rank
-  ranks-seen rank = all-seen (λ m. lowestRank m demand rank) (λ short. lowest-beyond demand rank n resources short (entries .0))
+  pub ranks-seen : (rank : List ℕ) (m : ℕ) → lowestRank m demand rank ≡ lowestRank (min m (length demand)) demand rank
+  ranks-seen rank m = all-seen (λ n. lowestRank n demand rank) m (lowest-beyond demand rank (length demand) m (le-refl _))

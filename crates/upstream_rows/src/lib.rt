@@ -1,11 +1,10 @@
 // What the upstream check asks of one stage: does it demand one unit, what is the lowest rank that it demands, and what weight
-// is due to it in a row? Any counts may be asked: nothing is demanded beyond the entries of a stage.
+// is due to it in a row? Its demands are lent, by any count of them: nothing is demanded beyond.
 ghost use mathlib.Core.Path.{_≡_};
-ghost use Prim.Native.Nat.{_≤_, _<_, min};
+ghost use Prim.Native.Nat.{_≤_, min};
 ghost use lib.Dec.{eqb};
 ghost use Rattle.model.specs.Numbers.{at, sumTo};
 ghost use Rattle.upstream_rows.specs.Due.{rankIf, lowestRank, dueBy};
-use model::Stage;
 
 fn u8_to_usize(x: u8) -> usize
     ensures { λ r. ⌜ (r ≡ x) × (r ≤ 255) ⌝ }
@@ -19,25 +18,21 @@ fn u8_to_u16(x: u8) -> u16
     x as u16
 }
 
-// As many of the resources as a stage has entries.
-fn with_entries(resources: u8) -> usize
-    ensures { λ r. ⌜ (r ≤ resources) × (r ≤ 32) × (r < resources → r ≡ 32) ⌝ }
+fn fewer(a: usize, b: usize) -> usize
+    ensures { λ r. ⌜ r ≡ min a b ⌝ }
 {
-    if 32 <= resources {
-        return 32;
-    }
-    u8_to_usize(resources)
+    if a < b { a } else { b }
 }
 
-// Does the stage demand one unit in all? Sums of 16 bits go eight at a time.
-pub fn one_unit(s: Stage, resources: u8) -> bool
-    ensures { λ r. ⌜ r ≡ eqb (sumTo resources (at (s .demand))) 1 ⌝ }
+// Is one unit demanded in all? Sums of 16 bits go eight at a time.
+pub fn one_unit(demand: &[u8], resources: u8) -> bool
+    ensures { λ r. ⌜ r ≡ eqb (sumTo resources (at (now (demand .entry)))) 1 ⌝ }
 {
-    let n = with_entries(resources);
+    let n = fewer(u8_to_usize(resources), demand.len());
     let mut sum: u16 = 0;
     let mut i = 0;
     while i < n {
-        sum += u8_to_u16(s.demand[i]);
+        sum += u8_to_u16(demand[i]);
         i += 1;
     }
     sum == 1
@@ -56,15 +51,15 @@ fn lower(a: u16, b: u16) -> u16
     if a < b { a } else { b }
 }
 
-// The lowest rank of the resources that the stage demands; above every rank where it demands none.
-pub fn lowest_rank(s: Stage, rank: &[u8; 32], resources: u8) -> u16
-    ensures { λ r. ⌜ r ≡ lowestRank resources (s .demand) (now (rank .entry)) ⌝ }
+// The lowest rank of the resources that are demanded, of those that can have a rank; above every rank where none is.
+pub fn lowest_rank<'a>(demand: &'a [u8], rank: &'a [u8; 32], resources: u8) -> u16
+    ensures { λ r. ⌜ r ≡ lowestRank (min resources 32) (now (demand .entry)) (now (rank .entry)) ⌝ }
 {
-    let n = with_entries(resources);
+    let n = fewer(fewer(u8_to_usize(resources), 32), demand.len());
     let mut lowest = 256;
     let mut i = 0;
     while i < n {
-        lowest = lower(lowest, rank_if(s.demand[i], rank[i]));
+        lowest = lower(lowest, rank_if(demand[i], rank[i]));
         i += 1;
     }
     lowest

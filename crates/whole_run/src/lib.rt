@@ -3,17 +3,18 @@ ghost use mathlib.Core.Path.{_≡_};
 ghost use Prim.Native.Nat.{_+_, _≤_};
 ghost use lib.ListN.{length};
 ghost use Rattle.events.specs.JobList.{emptyList};
+ghost use Rattle.plan_bytes.specs.Over.{planOver};
 ghost use Rattle.moves_text.specs.Output.{toPrint, output};
 ghost use Rattle.moves_text.specs.Space.{filled, lengthFilled, overlaid, overlaidAt};
 use admission::Table;
 use input_lines::event_of;
 use input_lines::plan_length;
-use model::Plan;
 use moves_text::EventLine;
 use numbers::answer_number;
 use numbers::answer_place;
 use output_lines::put_event_line;
 use output_lines::put_plan_line;
+use plan_bytes::Frame;
 use plan_lines::put_about;
 use plan_numbers::text_number;
 use reader::read;
@@ -24,9 +25,10 @@ use text_lines::part_of;
 pub const ENOUGH: usize = 491526;
 
 // The lines of the events, each answered at the table that the ones before it left; the place after them.
-fn put_replies(events: &[u8], plan: Plan, space: &mut [u8], start: usize) -> usize
+fn put_replies(events: &[u8], frame: Frame, stages: &[u8], space: &mut [u8], start: usize) -> usize
     requires { ⌜ (length (now events) ≤ 65536) × (start ≤ 65536) ⌝ }
-    ensures { λ r. ⌜ (r ≡ start + length (toPrint plan emptyList 1 (now (events .entry)))) × (now (space .exit) ≡ overlaidAt start (toPrint plan emptyList 1 (now (events .entry))) (now (space .entry))) ⌝ }
+    ensures { λ r. ⌜ (let out = toPrint (planOver frame (now (stages .entry))) emptyList 1 (now (events .entry)) in
+        (r ≡ start + length out) × (now (space .exit) ≡ overlaidAt start out (now (space .entry)))) ⌝ }
 {
     let mut table = Table::empty();
     let mut ordinal: u32 = 1;
@@ -45,7 +47,7 @@ fn put_replies(events: &[u8], plan: Plan, space: &mut [u8], start: usize) -> usi
             }
             EventLine::Given(event) => {
                 let before = table;
-                let outcome = before.handle(plan, event);
+                let outcome = before.handle(frame, stages, event);
                 let answer = outcome.answer;
                 let after = outcome.table;
                 let active = after.list.count as u32;
@@ -71,9 +73,16 @@ fn put_output(input: &[u8], space: &mut [u8]) -> usize
     let first = n + 2;
     let reading = read(part_of(input, 0, n));
     let answer = reading.answer;
-    let plan = reading.plan;
-    let at = put_about(text_number(answer), reading.line, plan, space);
-    put_replies(part_of(input, first, input.len()), plan, space, at)
+    let frame = reading.frame;
+    let stages = reading.stages;
+    let at = put_about(text_number(answer), reading.line, frame, &stages, space);
+    put_replies(
+        part_of(input, first, input.len()),
+        frame,
+        &stages,
+        space,
+        at,
+    )
 }
 
 // The length of the output; what is put is not kept.

@@ -1,7 +1,7 @@
 //! The kinds of cases, and the runs of many of them.
 
 use crate::cells;
-use crate::compare::{compare_run, Call, Sides, Space};
+use crate::compare::{compare_run, compare_shown, Call, Sides, Space};
 use crate::counts::{Counts, Group};
 use crate::events;
 use crate::inputs;
@@ -159,7 +159,7 @@ fn text_space(random: &mut Random) -> Space {
     }
 }
 
-/// A text into a cell of random bytes, and as an input of the program.
+/// A text into a cell of random bytes, what is shown of it, and as an input of the program.
 fn text_case(random: &mut Random, counts: &mut Counts) -> Result<(), String> {
     let text = texts::text(random);
     let mut bytes = random.bytes(CELL_SIZE);
@@ -174,6 +174,7 @@ fn text_case(random: &mut Random, counts: &mut Counts) -> Result<(), String> {
     if answer.number() == 0 && random.chance(20) {
         respell(random, &mut sides, &text.bytes)?;
     }
+    compare_shown(&text.bytes, counts)?;
     let space = space(random);
     compare_run(&text.bytes, space, random, counts)
 }

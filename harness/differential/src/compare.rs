@@ -14,6 +14,7 @@ use reference::upstream::check;
 use reference::{Plan, Table};
 use rilthoss::{Answer, CELL_SIZE};
 use std::fmt::Debug;
+use std::ops::Range;
 
 #[derive(Clone, Copy, Debug, PartialEq, Eq)]
 pub enum Call {
@@ -219,6 +220,16 @@ pub fn compare_run(
         })
 }
 
+/// The part of a text that is shown where it is refused, by its ends.
+pub fn compare_shown(text: &[u8], counts: &mut Counts) -> Result<(), String> {
+    let reading = read_plan(text);
+    counts.add(Group::Shown, reading.number);
+    let begin = reading.shown.as_ptr() as usize - text.as_ptr() as usize;
+    let expected = begin..begin + reading.shown.len();
+    compare_parts(expected, rilthoss::shown(text))
+        .map_err(|difference| format!("{difference}\n  text {}", shown(text)))
+}
+
 /// The answer with these parts; the first is a place, a line, a length or a count of moves.
 pub fn answer(number: u32, first: u32, second: u32) -> Answer {
     let [number, first, second] = [number, first, second].map(u64::from);
@@ -229,6 +240,13 @@ pub fn compare_answers(expected: Answer, found: Answer) -> Result<(), String> {
     match expected == found {
         true => Ok(()),
         false => Err(format!("expected {expected:?}, found {found:?}")),
+    }
+}
+
+pub fn compare_parts(expected: Range<usize>, found: Range<usize>) -> Result<(), String> {
+    match expected == found {
+        true => Ok(()),
+        false => Err(format!("expected part {expected:?}, found {found:?}")),
     }
 }
 
@@ -280,6 +298,10 @@ mod tests {
         }
         assert!(compare_lengths(5, 5).is_ok());
         assert!(compare_lengths(5, 0).is_err());
+        assert!(compare_parts(8..15, 8..15).is_ok());
+        for wrong in [0..0, 7..15, 8..14, 8..16] {
+            assert!(compare_parts(8..15, wrong).is_err());
+        }
     }
 
     #[test]

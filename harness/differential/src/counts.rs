@@ -9,6 +9,8 @@ use reference::text::MAX_TEXT;
 #[derive(Clone, Copy, Debug, PartialEq, Eq)]
 pub enum Group {
     Text,
+    /// A text whose shown part was compared, by its answer.
+    Shown,
     Load,
     Advance,
     Unload,
@@ -46,7 +48,7 @@ pub enum Group {
     Shuffled,
 }
 
-const GROUPS: usize = 25;
+const GROUPS: usize = 26;
 const NUMBERS: usize = 42;
 
 #[derive(Clone, Debug)]
@@ -59,6 +61,7 @@ const REQUIRED: &[(&str, &[Group], &[usize])] = {
     use Group::*;
     &[
         ("plan text", &[Text], &[0, 1, 2, 3, 4, 5, 6, 7, 9]),
+        ("plan text, shown part", &[Shown], &[0, 1, 2, 3, 4, 5, 6, 7]),
         (
             "event",
             &[Load, Advance, Unload, Pull],

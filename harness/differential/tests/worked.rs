@@ -153,6 +153,26 @@ fn texts() {
     }
 }
 
+/// The line that a refusal is about, without its LF and by its ends; none for 0, 1 and 7.
+#[test]
+fn shown_parts() {
+    let too_long = format!("#{}", "/".repeat(65_536));
+    let cases = [
+        (CROSSING, 0..0),
+        (&too_long, 0..0),
+        ("", 0..0),
+        ("C 1 1 0/R 1 255/", 0..0),
+        ("C 1 1 0/R 1 256/", 8..15),
+        ("#/C 1 1 0/R 1 256/K 1 1/", 10..17),
+        ("C 1 1 0/R 1 255", 8..15),
+        ("C 1 1 0/R 1 1/C 1 1 0/", 14..21),
+        ("c", 0..1),
+    ];
+    for (text, part) in cases {
+        assert_eq!(rilthoss::shown(&tabbed(text)), part, "{text}");
+    }
+}
+
 #[test]
 fn checks() {
     let bound = CROSSING.replace("B 2 1/", "B 2 2/");

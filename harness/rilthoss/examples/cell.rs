@@ -8,17 +8,13 @@ use rilthoss::{number, offset, Answer, CELL_SIZE};
 const PLAN: &[u8] = b"C\t2\t1\t2\nR\t1\t1\nR\t2\t1\nT\t1\t2\nS\t1\t1\t1\t1\nS\t1\t2\t2\t1\n\
 B\t1\t1\nB\t2\t1\nA\t1\t1\t1\t1\nA\t2\t1\t1\t1\nA\t2\t1\t2\t1\nK\t1\t1\nK\t2\t2\n";
 
+/// The same with a capacity that is too large.
+const BAD_PLAN: &[u8] = b"C\t2\t1\t2\nR\t1\t256\n";
+
 fn main() {
     let mut cell = [0; CELL_SIZE];
-    let read = rilthoss::read_plan(&mut cell, PLAN);
-    if read.number() != number::OK {
-        println!(
-            "the plan is refused: {} in line {}",
-            read.number(),
-            read.line()
-        );
-        return;
-    }
+    read(&mut cell, BAD_PLAN);
+    read(&mut cell, PLAN);
     let checked = rilthoss::check(&cell);
     println!("the upstream check: {}", checked.number());
 
@@ -36,6 +32,20 @@ fn main() {
         drained.number(),
         drained.moves()
     );
+}
+
+fn read(cell: &mut [u8], text: &[u8]) {
+    let answer = rilthoss::read_plan(cell, text);
+    if answer.number() == number::OK {
+        println!("the plan is accepted");
+    } else {
+        let line = String::from_utf8_lossy(&text[rilthoss::shown(text)]);
+        println!(
+            "refused, {}, line {}: {line}",
+            answer.number(),
+            answer.line()
+        );
+    }
 }
 
 fn tell(event: &str, answer: Answer, cell: &[u8]) {

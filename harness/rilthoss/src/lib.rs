@@ -13,6 +13,8 @@ mod answer;
 mod layout;
 pub mod number;
 
+use std::ops::Range;
+
 pub use answer::Answer;
 pub use layout::*;
 
@@ -30,6 +32,7 @@ mod c {
             text: *const u8,
             text_length: usize,
         ) -> u64;
+        pub fn rilthoss_shown(text: *const u8, text_length: usize) -> u64;
         pub fn rilthoss_write_plan(
             cell: *const u8,
             cell_length: usize,
@@ -59,6 +62,13 @@ mod c {
 pub fn read_plan(cell: &mut [u8], text: &[u8]) -> Answer {
     unsafe { c::rilthoss_read_plan(cell.as_mut_ptr(), cell.len(), text.as_ptr(), text.len()) }
         .into()
+}
+
+/// Of a text that [`read_plan`] refuses, where the line lies that the refusal is about, without its LF:
+/// `&text[shown(text)]`. It is `0..0` for an accepted text and for one refused by 1 or 7.
+pub fn shown(text: &[u8]) -> Range<usize> {
+    let ends = unsafe { c::rilthoss_shown(text.as_ptr(), text.len()) };
+    (ends & 0xFFFF_FFFF) as usize..(ends >> 32) as usize
 }
 
 /// Writes the cell's plan as text, in its one spelling, to the beginning of the space. 0 and the

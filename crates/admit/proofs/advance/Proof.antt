@@ -1,17 +1,20 @@
 -- The questions are asked in parts; the last two test the sums with the old stage exchanged for the new.
-use Prim.Native.Nat.{_+_, _<_}
+use Prim.Native.Nat.{ℕ, _+_, _<_}
 use native.Mathlib.Omega.{arith}
 use mathlib.Core.Bool.{true}
+use mathlib.Core.List.{List}
 use mathlib.Core.Path.{_≡_, refl, sym, ap, subst⁻¹, _∙_}
+use lib.ListN.{length}
 use borrow.Author.Needs.{needs}
 use borrow.Author.Tests.{ltb-true}
 use Rattle.model.specs.Limits.{maxAllStages}
-use Rattle.model.specs.Plan.{stageOf}
+use Rattle.model.specs.Plan.{noStage, stageOf}
 use Rattle.model.specs.Jobs.{jobOf, HasNext, advancedJob}
 use Rattle.model.specs.declared.Plan.{Plan}
 use Rattle.model.specs.declared.Stage.{Stage}
 use Rattle.model.specs.declared.Job.{Job}
-use Rattle.model.proofs.Arrays.{plan-stages}
+use Rattle.model.proofs.Decide.{passes}
+use Rattle.model.proofs.Soundness.{decides-sound}
 use Rattle.events.specs.JobList.{jobsOf}
 use Rattle.events.specs.Events.{isAdmitted, answer}
 use Rattle.events.specs.declared.JobList.{JobList}
@@ -19,12 +22,16 @@ use Rattle.events.specs.declared.Event.{Event}
 use Rattle.events.specs.declared.Event.the-variants.{Advance}
 use Rattle.events.proofs.AnswerTags.{refused-tag}
 use Rattle.parts.specs.Parts.{withReplaced}
+use Rattle.parts.specs.JobNumbers.{listOver, applied}
 use Rattle.parts.specs.declared.Agreement.{Agreement}
-use Rattle.parts.proofs.StageIndex.{from-within, to-within, old-read, new-read}
+use Rattle.parts.proofs.StageIndex.{to-within, old-read, new-read}
 use Rattle.parts.proofs.SumsAfter.{kept-same}
 use Rattle.parts.proofs.ListChanges.{advanced-list}
 use Rattle.parts.proofs.QuestionParts.{admitted-outcome, refused-outcome}
 use Rattle.parts.proofs.ActiveQuestions.{Stands, active, advance-goes}
+use Rattle.plan_bytes.specs.Over.{stagesSize, planRead, planOver}
+use Rattle.plan_bytes.specs.declared.Frame.{Frame}
+use Rattle.plan_bytes.proofs.Over.{sound-whole, over-there, at-over}
 use Rattle.admit.proofs.ActiveOpening as opening
 use Rattle.admit.proofs.ActiveOpening.{opening-refused}
 use Rattle.admit.proofs.advance.Statement.{statement}
@@ -33,13 +40,19 @@ use Rattle.admit.proofs.advance.Tie as tie
 -- where questions 11 to 14 and 17 are met
 module _ (c : tie.After-enum-told) where
   abbrev start : tie.Start
-  start = c .before .before .before
+  start = c .before .before .before .before
 
   abbrev list : JobList
-  list = start .args .t
+  list = listOver (start .args .count) (start .args .jobs .now)
+
+  abbrev f : Frame
+  f = start .args .t1
+
+  abbrev bytes : List ℕ
+  bytes = start .args .stages .now
 
   abbrev plan : Plan
-  plan = start .args .t2
+  plan = planOver f bytes
 
   abbrev event : Event
   event = Advance (start .args .job)
@@ -62,17 +75,16 @@ module _ (c : tie.After-enum-told) where
   more : HasNext plan j
   more = subst⁻¹ (HasNext plan) named found-next
 
--- where both stages stand
+  whole : length bytes ≡ stagesSize
+  whole = sound-whole f bytes (passes (decides-sound plan) (stands .sound))
+
+-- where the next stage stands
 module _ (c : tie.After-stage-index) where
   abbrev going : tie.After-enum-told
   going = c .before .before .before .before .before
 
-  from-there : c .stage-index .result < maxAllStages
-  from-there =
-      let asked = going .before .before .ask-active .ensures in
-      from-within (plan going) (stands going .sound) (j going) (opening.staged asked (met going)) (more going) _ (c .stage-index .ensures)
-
   to-there : c .stage-index .result + 1 < maxAllStages
+  unfolding planOver planRead
   to-there =
       let asked = going .before .before .ask-active .ensures in
       to-within (plan going) (stands going .sound) (j going) (opening.staged asked (met going)) (more going) _ (c .stage-index .ensures)
@@ -80,24 +92,27 @@ module _ (c : tie.After-stage-index) where
 -- what the sums say
 module _ (c : tie.After-kept-after) where
   abbrev indexed : tie.After-stage-index
-  indexed = c .before .before .before .before
+  indexed = c .before .before
 
   abbrev m : tie.After-enum-told
   m = going indexed
 
   says : answer (plan m) (list m) (event m) ≡ c .kept-after .result
+  unfolding planOver planRead
   says =
       let asked = m .before .before .ask-active .ensures in
       let agrees = opening.agrees asked (met m) in
       let sums = ap (λ (a : Agreement). a .sums) agrees in
       let ceilings = ap (λ (a : Agreement). a .ceilings) agrees in
-      let slots = plan-stages (plan m) _ (start m .good .1 .0) in
+      let slots = over-there (f m) (bytes m) in
       let staged = opening.staged asked (met m) in
       let index = indexed .stage-index .ensures in
       let stage′ : Job → Stage = λ j. stageOf (plan m) (j .kind) (j .stage) in
       let next′ : Job → Stage = λ j. stageOf (plan m) (j .kind) (j .stage + 1) in
-      let old = old-read (plan m) (stands m .sound) (j m) staged (more m) _ index _ slots ∙ ap stage′ (named m) in
-      let new = new-read (plan m) (stands m .sound) (j m) staged (more m) _ index _ slots ∙ ap next′ (named m) in
+      let from = sym (at-over (bytes m) (indexed .stage-index .result) (whole m) (f m)) in
+      let to = sym (at-over (bytes m) (indexed .stage-index .result + 1) (whole m) (f m)) in
+      let old = from ∙ old-read (plan m) (stands m .sound) (j m) staged (more m) _ index noStage slots ∙ ap stage′ (named m) in
+      let new = to ∙ new-read (plan m) (stands m .sound) (j m) staged (more m) _ index noStage slots ∙ ap next′ (named m) in
       advance-goes (stands m) (found-next m) _ _ old new ∙ sym (c .kept-after .ensures ∙ kept-same sums ceilings refl _)
 
 ask-active-requires : tie.Need-ask-active-requires
@@ -112,25 +127,14 @@ refused-requires c κs = tt
 returns : tie.Need-returns
 returns c =
     let asked = c .before .before .ask-active in
-    c .refused .ensures ∙ opening-refused (asked .ensures) (refused-tag (asked .result .answer) (c .before .match .keys2))
+    let a = c .before .before .before .before .args in
+    ap (applied (listOver (a .count) (a .jobs .now))) (c .refused .ensures) ∙ opening-refused (asked .ensures) (refused-tag (asked .result .answer) (c .before .match .keys2))
 
 stage-index-requires : tie.Need-stage-index-requires
 stage-index-requires c κs = tt
 
-mul-old : tie.Need-mul-old
-mul-old c = omega (arith, from-there c)
-
-element-copy-out-old : tie.Need-element-copy-out-old
-element-copy-out-old c = from-there c
-
 add-to : tie.Need-add-to
-add-to c = omega (arith, from-there (c .before))
-
-mul-new : tie.Need-mul-new
-mul-new c = omega (arith, to-there (c .before))
-
-element-copy-out-new : tie.Need-element-copy-out-new
-element-copy-out-new c = to-there (c .before)
+add-to c = let h = to-there c in search needs
 
 kept-after-requires : tie.Need-kept-after-requires
 kept-after-requires c κs = tt
@@ -145,7 +149,7 @@ returns-2 : tie.Need-returns-2
 returns-2 c =
     let kept = c .before .before in
     let refused = refused-tag (kept .kept-after .result) (c .before .match2 .keys2) in
-    c .refused2 .ensures ∙ refused-outcome (plan (m kept)) (list (m kept)) (event (m kept)) _ (says kept) refused
+    ap (applied (list (m kept))) (c .refused2 .ensures) ∙ refused-outcome (plan (m kept)) (list (m kept)) (event (m kept)) _ (says kept) refused
 
 add-stage : tie.Need-add-stage
 add-stage c =
@@ -153,21 +157,17 @@ add-stage c =
     let staged = opening.staged (h .before .before .ask-active .ensures) (met h) in
     omega (arith, more h, stands h .sound .lengths _ (staged .0))
 
-with-replaced-requires : tie.Need-with-replaced-requires
-with-replaced-requires c κs = tt
-
 returns-3 : tie.Need-returns-3
 returns-3 c =
-    let kept = c .before .before .before .before in
+    let kept = c .before .before .before in
     let h = m kept in
     let position = opening.position (h .before .before .ask-active .ensures) in
     let leads =
-    c .with-replaced .ensures
-    ∙ (λ i. withReplaced (list h) (position i) (advancedJob (plan h) (named h i)))
+    (λ i. withReplaced (list h) (position i) (advancedJob (plan h) (named h i)))
     ∙ advanced-list (plan h) (list h) (stands h .agrees) (start h .args .job) (active (stands h))
     in
-    let admitted = ap isAdmitted (c .before .before .enum-told2 .given .1) in
-    admitted-outcome (plan h) (list h) (event h) _ (says kept) admitted (c .with-replaced .result) leads
+    let admitted = ap isAdmitted (c .before .enum-told2 .given .1) in
+    admitted-outcome (plan h) (list h) (event h) _ (says kept) admitted _ leads
 
 pub advance-spec : {M : Type 1} → statement M
 advance-spec =
@@ -178,15 +178,10 @@ advance-spec =
     refused-requires
     returns
     stage-index-requires
-    mul-old
-    element-copy-out-old
     add-to
-    mul-new
-    element-copy-out-new
     kept-after-requires
     enum-told-2
     refused-requires-2
     returns-2
     add-stage
-    with-replaced-requires
     returns-3)

@@ -2,6 +2,8 @@
 use mathlib.Core.Path.{_≡_, ap, _∙_}
 use Rattle.parts.specs.Parts.{stageMeets, stageMet, activeAnswer}
 use Rattle.parts.specs.declared.Found.{Found}
+use Rattle.model.specs.declared.Plan.{Plan}
+use Rattle.plan_bytes.specs.Over.{planRead, planOver}
 use Rattle.admit.proofs.ask_active.Statement.{statement}
 use Rattle.admit.proofs.ask_active.Tie as tie
 
@@ -25,10 +27,14 @@ module _ (c : tie.After-stage-met) where
   searched = c .before .before .before .before .before
 
   abbrev start : tie.Start
-  start = searched .before .before
+  start = searched .before .before .before
+
+  abbrev plan : Plan
+  plan = planOver (start .args .t1) (start .args .stages .now)
 
   -- question 17 of the job found
-  met : c .stage-met .result ≡ stageMet (start .args .p) (start .args .wanted) (searched .look-up .result .job)
+  met : c .stage-met .result ≡ stageMet plan (start .args .wanted) (searched .look-up .result .job)
+  unfolding planOver planRead
   met =
       let j = searched .look-up .result .job in
       c .stage-met .ensures
@@ -40,9 +46,9 @@ returns c =
     let a = start m .args in
     let agrees = searched m .before .agree .ensures in
     let found = searched m .look-up .ensures in
-    let met′ = met m ∙ ap (λ (f : Found). stageMet (a .p) (a .wanted) (f .job)) found in
+    let met′ = met m ∙ ap (λ (f : Found). stageMet (plan m) (a .wanted) (f .job)) found in
     record {
-      answer = c .active-answer .ensures ∙ (λ i. activeAnswer (agrees i .answer) (a .t .count) (found i .at) (a .job) (met′ i));
+      answer = c .active-answer .ensures ∙ (λ i. activeAnswer (agrees i .answer) (a .count) (found i .at) (a .job) (met′ i));
       agreement = agrees;
       found = found;
     }

@@ -1,15 +1,16 @@
 -- The questions are asked in parts; the last two test the sums with nothing exchanged for the first stage.
-use Prim.Native.Nat.{ℕ, _<_}
+use Prim.Native.Nat.{ℕ}
 use native.Mathlib.Omega.{arith}
+use mathlib.Core.List.{List}
 use mathlib.Core.Path.{_≡_, sym, ap, _∙_}
-use lib.ListN.{getD}
+use lib.ListN.{length, getD}
 use borrow.Author.Needs.{needs}
 use Rattle.model.specs.Limits.{maxAllStages}
-use Rattle.model.specs.Plan.{IsStage, stageOf}
+use Rattle.model.specs.Plan.{noStage, IsStage, stageOf}
 use Rattle.model.specs.Jobs.{loadedJob}
 use Rattle.model.specs.declared.Plan.{Plan}
-use Rattle.model.specs.declared.Stage.{Stage}
-use Rattle.model.proofs.Arrays.{plan-stages}
+use Rattle.model.proofs.Decide.{passes}
+use Rattle.model.proofs.Soundness.{decides-sound}
 use Rattle.events.specs.JobList.{jobsOf}
 use Rattle.events.specs.Events.{isAdmitted, answer}
 use Rattle.events.specs.declared.JobList.{JobList}
@@ -18,22 +19,32 @@ use Rattle.events.specs.declared.Event.{Event}
 use Rattle.events.specs.declared.Event.the-variants.{Load}
 use Rattle.events.proofs.AnswerTags.{refused-tag}
 use Rattle.parts.specs.Parts.{sumsOf, ceilingsOf, positionOf, loadAnswer, agreedWith, agreed}
+use Rattle.parts.specs.JobNumbers.{listOver, applied}
 use Rattle.parts.specs.declared.Agreement.{Agreement}
-use Rattle.parts.proofs.StageIndex.{index-within, stage-read}
+use Rattle.parts.proofs.StageIndex.{stage-named}
 use Rattle.parts.proofs.SumsAfter.{kept-same}
 use Rattle.parts.proofs.ListChanges.{added-list}
 use Rattle.parts.proofs.QuestionParts.{met-agreement, admitted-outcome, refused-outcome}
 use Rattle.parts.proofs.FirstQuestions.{agreed-answer, agreed-met}
 use Rattle.parts.proofs.LoadQuestions.{Loads, load-refused, load-goes, load-kept}
+use Rattle.plan_bytes.specs.Over.{stagesSize, planRead, planOver, stageAt}
+use Rattle.plan_bytes.specs.declared.Frame.{Frame}
+use Rattle.plan_bytes.proofs.Over.{sound-whole, at-beyond, at-over}
 use Rattle.admit.proofs.load.Statement.{statement}
 use Rattle.admit.proofs.load.Tie as tie
 
 module _ (c : tie.Start) where
   abbrev list : JobList
-  list = c .args .t
+  list = listOver (c .args .count) (c .args .jobs .now)
+
+  abbrev f : Frame
+  f = c .args .t1
+
+  abbrev bytes : List ℕ
+  bytes = c .args .stages .now
 
   abbrev plan : Plan
-  plan = c .args .t2
+  plan = planOver f bytes
 
   abbrev event : Event
   event = Load (c .args .job) (c .args .kind)
@@ -41,12 +52,13 @@ module _ (c : tie.Start) where
 -- the answer to questions 11 to 16
 module _ (c : tie.After-load-answer) where
   abbrev start : tie.Start
-  start = c .before .before .before
+  start = c .before .before .before .before
 
   abbrev asked : Answer → ℕ → Answer
   asked first position = loadAnswer first (list start .count) position (plan start .types) (start .args .job) (start .args .kind)
 
   first-says : c .load-answer .result ≡ asked (agreed (plan start) (list start) .answer) (positionOf (start .args .job) (jobsOf (list start)))
+  unfolding planOver planRead
   first-says =
       let agrees = c .before .before .agree .ensures in
       let found = c .before .look-up .ensures in
@@ -78,29 +90,33 @@ module _ (c : tie.After-stage-index) where
   abbrev met : tie.After-enum-told
   met = c .before .before .before
 
-  within : c .stage-index .result < maxAllStages
-  within = rw (c .stage-index .ensures) (index-within (plan (s met)) (loads met .sound) (s met .args .kind) 1 (staged met))
+  whole : length (bytes (s met)) ≡ stagesSize
+  whole = sound-whole (f (s met)) (bytes (s met)) (passes (decides-sound (plan (s met))) (loads met .sound))
 
-  new-read : (d : Stage) → getD (plan (s met) .stages) (c .stage-index .result) d ≡ stageOf (plan (s met)) (s met .args .kind) 1
-  new-read d =
-      let slots = plan-stages (plan (s met)) _ (s met .good .1 .0) in
-      ap (λ n. getD (plan (s met) .stages) n d) (c .stage-index .ensures)
-      ∙ stage-read (plan (s met)) (loads met .sound) (s met .args .kind) 1 (staged met) d slots
+  new-read : stageAt (bytes (s met)) (c .stage-index .result) ≡ stageOf (plan (s met)) (s met .args .kind) 1
+  unfolding planOver planRead
+  new-read =
+      sym
+      (stage-named (plan (s met)) (s met .args .kind) 1 (staged met)
+      ∙ ap (λ n. getD (plan (s met) .stages) n noStage) (sym (c .stage-index .ensures))
+      ∙ at-over (bytes (s met)) (c .stage-index .result) whole (f (s met)))
 
 -- what the sums say
 module _ (c : tie.After-kept-after) where
   abbrev indexed : tie.After-stage-index
-  indexed = c .before .before .before
+  indexed = c .before
 
   abbrev m : tie.After-enum-told
   m = met indexed
 
   says : answer (plan (s m)) (list (s m)) (event (s m)) ≡ c .kept-after .result
+  unfolding planOver planRead
   says =
       let sums = ap (λ (a : Agreement). a .sums) (agrees m) in
       let ceilings = ap (λ (a : Agreement). a .ceilings) (agrees m) in
-      load-kept (loads m) _ (new-read indexed _)
-      ∙ sym (c .kept-after .ensures ∙ kept-same sums ceilings (c .before .no-stage .ensures) _)
+      let none = at-beyond (bytes (s m)) maxAllStages (whole indexed) (omega arith) in
+      load-kept (loads m) _ (new-read indexed)
+      ∙ sym (c .kept-after .ensures ∙ kept-same sums ceilings none _)
 
 agree-requires : tie.Need-agree-requires
 agree-requires c κs = tt
@@ -123,21 +139,12 @@ refused-requires c κs = tt
 returns : tie.Need-returns
 returns c =
     let a = start (c .before .before) in
-    c .refused .ensures
+    ap (applied (list a)) (c .refused .ensures)
     ∙ load-refused (plan a) (list a) (a .args .job) (a .args .kind) _ _ (agreed-answer (plan a) (list a)) (first-says (c .before .before))
     (refused-tag (c .before .before .load-answer .result) (c .before .match .keys2))
 
 stage-index-requires : tie.Need-stage-index-requires
 stage-index-requires c κs = tt
-
-mul-new : tie.Need-mul-new
-mul-new c = omega (arith, within c)
-
-element-copy-out-new : tie.Need-element-copy-out-new
-element-copy-out-new c = within c
-
-no-stage-requires : tie.Need-no-stage-requires
-no-stage-requires c κs = tt
 
 kept-after-requires : tie.Need-kept-after-requires
 kept-after-requires c κs = tt
@@ -153,18 +160,15 @@ returns-2 c =
     let kept = c .before .before in
     let a = s (m kept) in
     let refused = refused-tag (kept .kept-after .result) (c .before .match2 .keys2) in
-    c .refused2 .ensures ∙ refused-outcome (plan a) (list a) (event a) _ (says kept) refused
-
-with-job-requires : tie.Need-with-job-requires
-with-job-requires c κs = tt
+    ap (applied (list a)) (c .refused2 .ensures) ∙ refused-outcome (plan a) (list a) (event a) _ (says kept) refused
 
 returns-3 : tie.Need-returns-3
 returns-3 c =
-    let kept = c .before .before .before in
+    let kept = c .before .before in
     let l = loads (m kept) in
     let a = s (m kept) in
-    let leads = c .with-job .ensures ∙ added-list (plan a) (list a) (l .agrees) (loadedJob (a .args .job) (a .args .kind)) (l .room) in
-    admitted-outcome (plan a) (list a) (event a) _ (says kept) (ap isAdmitted (c .before .enum-told2 .given .1)) (c .with-job .result) leads
+    let leads = added-list (plan a) (list a) (l .agrees) (loadedJob (a .args .job) (a .args .kind)) (l .room) in
+    admitted-outcome (plan a) (list a) (event a) _ (says kept) (ap isAdmitted (c .enum-told2 .given .1)) _ leads
 
 pub load-spec : {M : Type 1} → statement M
 load-spec =
@@ -178,12 +182,8 @@ load-spec =
     refused-requires
     returns
     stage-index-requires
-    mul-new
-    element-copy-out-new
-    no-stage-requires
     kept-after-requires
     enum-told-2
     refused-requires-2
     returns-2
-    with-job-requires
     returns-3)

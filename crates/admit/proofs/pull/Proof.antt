@@ -1,5 +1,6 @@
 -- The job goes where the questions are met; that is admitted at any stage.
-use mathlib.Core.Path.{refl, _∙_}
+use mathlib.Core.Path.{refl, ap, _∙_}
+use Rattle.parts.specs.JobNumbers.{listOver, applied}
 use Rattle.parts.specs.declared.StageAsked.the-variants.{Any}
 use Rattle.parts.proofs.ActiveQuestions.{pull-goes}
 use Rattle.admit.proofs.RemovalOutcome.{removal-outcome}
@@ -13,7 +14,10 @@ removal-requires : tie.Need-removal-requires
 removal-requires c κs = tt
 
 returns : tie.Need-returns
-returns c = c .removal .ensures ∙ removal-outcome Any (c .before .before .ask-active .ensures) refl (λ stands met. pull-goes stands)
+returns c =
+    let a = c .before .before .before .before .args in
+    ap (applied (listOver (a .count) (a .jobs .now))) (c .removal .ensures)
+    ∙ removal-outcome Any (c .before .before .ask-active .ensures) refl (λ stands met. pull-goes stands)
 
 pub pull-spec : {M : Type 1} → statement M
 pull-spec = tie.close (tie.spec ask-active-requires removal-requires returns)

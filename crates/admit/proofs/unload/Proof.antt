@@ -1,6 +1,7 @@
 -- The job goes where the questions are met; at its last stage that is always admitted.
-use mathlib.Core.Path.{refl, sym, _∙_}
+use mathlib.Core.Path.{refl, sym, ap, _∙_}
 use borrow.Author.Tests.{eqb-true}
+use Rattle.parts.specs.JobNumbers.{listOver, applied}
 use Rattle.parts.specs.declared.StageAsked.the-variants.{Last}
 use Rattle.parts.proofs.ActiveQuestions.{unload-goes}
 use Rattle.admit.proofs.RemovalOutcome.{removal-outcome}
@@ -15,7 +16,8 @@ removal-requires c κs = tt
 
 returns : tie.Need-returns
 returns c =
-    c .removal .ensures
+    let a = c .before .before .before .before .args in
+    ap (applied (listOver (a .count) (a .jobs .now))) (c .removal .ensures)
     ∙ removal-outcome Last (c .before .before .ask-active .ensures) refl (λ stands met. unload-goes stands (sym (eqb-true _ _ met)))
 
 pub unload-spec : {M : Type 1} → statement M

@@ -12,28 +12,27 @@ use Rattle.model.specs.declared.Job.{Job}
 use Rattle.model.proofs.Search.{each-here, each-end}
 use Rattle.events.specs.JobList.{jobsOf}
 use Rattle.events.specs.declared.JobList.{JobList}
-use Rattle.events.proofs.Arrays.{list-slots}
+use Rattle.parts.specs.JobNumbers.{jobsLaid, listOver}
+use Rattle.parts.proofs.JobsLaid.{slots-laid}
 use borrow.Author.Needs.{needs}
 use Rattle.agreement.proofs.jobs_fit.Statement.{statement}
 use Rattle.agreement.proofs.jobs_fit.Tie as tie
 
 abbrev Inv-loop : tie.InvT-loop
-Inv-loop lengths types t count i₀ i =
-    (count ≡ t .count) × (length (jobsOf t) ≡ count) × (each (fits types lengths) (jobsOf t) ≡ each (fits types lengths) (drop i (jobsOf t)))
+Inv-loop count jobs lengths types i₀ i =
+    let js = jobsOf (listOver count jobs) in
+    (length js ≡ count) × (each (fits types lengths) js ≡ each (fits types lengths) (drop i js))
 
 abbrev μ-loop : tie.MeasureT-loop
-μ-loop lengths types t count i₀ i = count - i
+μ-loop count jobs lengths types i₀ i = count - i
 
 loop-holds : tie.Need-loop-holds Inv-loop μ-loop
 loop-holds c =
-    let whole : length (c .args .t1 .jobs) ≡ 64 = list-slots (c .args .t1) _ (c .good .0) in
-    (refl, length-take-le (c .args .t1 .count) (c .args .t1 .jobs) (omega arith), refl)
+    let a = c .args in
+    (length-take-le (a .count) (jobsLaid (a .jobs .now)) (omega (arith, slots-laid (a .jobs .now))), refl)
 
-mul-j : tie.Need-mul-j Inv-loop μ-loop
-mul-j c = search needs
-
-element-copy-out-j : tie.Need-element-copy-out-j Inv-loop μ-loop
-element-copy-out-j c = search needs
+job-at-requires : tie.Need-job-at-requires Inv-loop μ-loop
+job-at-requires c κs = tt
 
 job-fits-requires : tie.Need-job-fits-requires Inv-loop μ-loop
 job-fits-requires c κs = tt
@@ -47,7 +46,7 @@ module _ (c : tie.After-job-fits Inv-loop μ-loop) where
   start = turn .before
 
   abbrev list : JobList
-  list = start .args .t1
+  list = listOver (start .args .count) (start .args .jobs .now)
 
   abbrev i : ℕ
   i = turn .loop .i
@@ -58,7 +57,9 @@ module _ (c : tie.After-job-fits Inv-loop μ-loop) where
   fits-here : (b : Bool) → c .job-fits .result ≡ b → each fitting (jobsOf list) ≡ (b && each fitting (drop (i + 1) (jobsOf list)))
   fits-here b says =
       let here : getD (jobsOf list) i noJob ≡ getD (list .jobs) i noJob = getD-take (list .count) (list .jobs) i noJob (omega arith) in
-      turn .loop .inv .2 ∙ each-here fitting (jobsOf list) i noJob (omega arith) ∙ rw (here, sym (c .job-fits .ensures) ∙ says) refl
+      turn .loop .inv .1
+      ∙ each-here fitting (jobsOf list) i noJob (omega arith)
+      ∙ rw (here ∙ sym (c .before .job-at .ensures), sym (c .job-fits .ensures) ∙ says) refl
 
 returns : tie.Need-returns Inv-loop μ-loop
 returns c = sym (fits-here (c .before) false (not-true _ (c .if1 .taken)))
@@ -70,10 +71,12 @@ loop-less : tie.Need-loop-less Inv-loop μ-loop
 loop-less c = search needs
 
 loop-again : tie.Need-loop-again Inv-loop μ-loop
-loop-again c = let k = c .before in (refl, turn k .loop .inv .1, fits-here k true (not-false _ (c .if1 .left)))
+loop-again c = let k = c .before in (turn k .loop .inv .0, fits-here k true (not-false _ (c .if1 .left)))
 
 returns-2 : tie.Need-returns-2 Inv-loop μ-loop
-returns-2 c = sym (c .before .loop .inv .2 ∙ each-end _ (jobsOf (c .before .before .args .t1)) (c .before .loop .i) (omega arith))
+returns-2 c =
+    let a = c .before .before .args in
+    sym (c .before .loop .inv .1 ∙ each-end _ (jobsOf (listOver (a .count) (a .jobs .now))) (c .before .loop .i) (omega arith))
 
 pub jobs-fit-spec : {M : Type 1} → statement M
 jobs-fit-spec =
@@ -82,8 +85,7 @@ jobs-fit-spec =
     Inv-loop
     μ-loop
     loop-holds
-    mul-j
-    element-copy-out-j
+    job-at-requires
     job-fits-requires
     returns
     add-i

@@ -8,7 +8,6 @@ use lib.Dec.{leb}
 use lib.ListN.{length, take, drop, length-map}
 use lib.Seq.{length-take-le}
 use Rattle.model.proofs.Lists.{map-take}
-use Rattle.events.proofs.Arrays.{list-slots}
 use Rattle.model.specs.declared.Job.{Job}
 use Rattle.model.specs.Limits.{maxJobs}
 use Rattle.model.specs.Numbers.{each}
@@ -16,6 +15,8 @@ use Rattle.model.specs.Jobs.{distinct, fits}
 use Rattle.events.specs.JobList.{jobsOf, isNoJob}
 use Rattle.events.specs.declared.JobList.{JobList}
 use Rattle.parts.specs.Parts.{wellFormed}
+use Rattle.parts.specs.JobNumbers.{listOver}
+use Rattle.parts.proofs.JobsLaid.{slots-laid, beyond-laid}
 use borrow.Author.Needs.{needs}
 use Rattle.agreement.proofs.well_formed.Statement.{statement}
 use Rattle.agreement.proofs.well_formed.Tie as tie
@@ -29,18 +30,25 @@ module _ (c : tie.Else1) where
   start = c .before
 
   abbrev list : JobList
-  list = start .args .t
+  list = listOver (start .args .count) (start .args .jobs .now)
 
   low : leb (list .count) maxJobs ≡ true
   low = le-leb (list .count) maxJobs (c .if1 .left)
 
+-- what the numbers beyond those of the jobs say of the slots
+beyond : (c : tie.After-zero-beyond) → let t = list (c .before .before) in each isNoJob (drop (t .count) (t .jobs)) ≡ c .zero-beyond .result
+beyond c =
+    let e = c .before .before in
+    let a = start e .args in
+    beyond-laid (a .jobs .now) (a .count) (e .if1 .left) (search needs) ∙ sym (c .zero-beyond .ensures)
+
 -- where there are only zeros beyond the jobs
 module _ (c : tie.Else2) where
   abbrev counted : tie.Else1
-  counted = c .before .before
+  counted = c .before .before .before
 
   clear : each isNoJob (drop (list counted .count) (list counted .jobs)) ≡ true
-  clear = sym (c .before .none-beyond .ensures) ∙ not-false _ (c .if2 .left)
+  clear = beyond (c .before) ∙ not-false _ (c .if2 .left)
 
 -- where the jobs fit one by one
 module _ (c : tie.Else3) where
@@ -50,19 +58,22 @@ module _ (c : tie.Else3) where
   abbrev begun : tie.Start
   begun = start (counted cleared)
 
-  fitting : each (fits (begun .args .types) (begun .args .lengths .now)) (jobsOf (begun .args .t)) ≡ true
+  fitting : each (fits (begun .args .types) (begun .args .lengths .now)) (jobsOf (list (counted cleared))) ≡ true
   fitting = sym (c .before .jobs-fit .ensures) ∙ not-false _ (c .if3 .left)
 
 returns : tie.Need-returns
 unfolding wellFormed
-returns c = rw (lt-leb (c .before .args .t .count) maxJobs (c .if1 .taken)) refl
+returns c = rw (lt-leb (c .before .args .count) maxJobs (c .if1 .taken)) refl
 
-none-beyond-requires : tie.Need-none-beyond-requires
-none-beyond-requires c κs = tt
+mul-zero-beyond : tie.Need-mul-zero-beyond
+mul-zero-beyond c = search needs
+
+zero-beyond-requires : tie.Need-zero-beyond-requires
+zero-beyond-requires c κs = tt
 
 returns-2 : tie.Need-returns-2
 unfolding wellFormed
-returns-2 c = rw (low (c .before .before), sym (c .before .none-beyond .ensures) ∙ not-true _ (c .if2 .taken)) refl
+returns-2 c = rw (low (c .before .before .before), beyond (c .before) ∙ not-true _ (c .if2 .taken)) refl
 
 jobs-fit-requires : tie.Need-jobs-fit-requires
 jobs-fit-requires c κs = search needs
@@ -84,7 +95,7 @@ slice-aggregate-all-distinct c =
     let e = c .before .before in
     let t = list (counted (cleared e)) in
     let numbers = c .before .numbers-of in
-    let slots = list-slots t _ (begun e .good .0) in
+    let slots = slots-laid (begun e .args .jobs .now) in
     let long : length (numbers .result) ≡ 64 = ap length (numbers .ensures) ∙ length-map (t .jobs) number ∙ slots in
     sym (length-take-le (t .count) (numbers .result) (omega (arith, counted (cleared e) .if1 .left)))
 
@@ -104,7 +115,8 @@ well-formed-spec =
     tie.close
     (tie.spec
     returns
-    none-beyond-requires
+    mul-zero-beyond
+    zero-beyond-requires
     returns-2
     jobs-fit-requires
     returns-3

@@ -1,14 +1,16 @@
 -- A drain is that of the plan and the list in the bytes. The list is written where a move was made.
-use Prim.Native.Nat.{ℕ, _≤_, _<_}
+use Prim.Native.Nat.{ℕ, _≤_}
 use native.Mathlib.Omega.{arith}
 use mathlib.Core.List.{List}
 use mathlib.Core.Path.{_≡_, refl, ap, _∙_}
 use denote.Ref.{now}
+use lib.ListN.{length}
 use Rattle.events.specs.Drain.{endNumber}
 use Rattle.events.specs.declared.ListDrained.{ListDrained}
 use Rattle.admission.specs.Table.{tableOf, drain}
-use Rattle.cell_layout.specs.Layout.{planIn, withList}
+use Rattle.cell_layout.specs.Layout.{cellSize, planIn, withList}
 use Rattle.cell_layout.specs.HostAnswers.{packed, cellDrain}
+use Rattle.cell_layout.proofs.Lent.{lent-in}
 use Rattle.cell_layout.proofs.HostAnswers.{no-drain, drain-still, drain-moved}
 use borrow.Author.Needs.{needs}
 use Rattle.cell_events.proofs.drain_at.Statement.{statement}
@@ -16,21 +18,27 @@ use Rattle.cell_events.proofs.drain_at.Tie as tie
 
 -- the drain is that of the plan and the list in the bytes
 module _ (c : tie.After-drain) where
+  abbrev begun : tie.Start
+  begun = c .before .before .before .before .before .before .before .before .before
+
   abbrev bytes : List ℕ
-  bytes = now (c .before .before .before .before .before .before .before .args .cell)
+  bytes = now (begun .args .cell)
+
+  room : cellSize ≤ length bytes
+  room = omega arith
 
   abbrev budget : ℕ
-  budget = c .before .before .before .before .before .before .before .args .budget
+  budget = begun .args .budget
 
   abbrev d : ListDrained
   d = cellDrain bytes budget
 
   drained : c .drain .result ≡ record { end = d .end; moves = d .moves; table = tableOf (d .list) }
   drained =
-      let list = c .before .before .before .list-in in
-      let plan = c .before .plan-in in
+      let frame = c .before .before .before .frame-in in
+      let list = c .before .before .before .before .before .list-in in
       c .drain .ensures
-      ∙ ap (λ p. drain p (tableOf (list .result)) budget) (plan .ensures)
+      ∙ ap (λ p. drain p (tableOf (list .result)) budget) (lent-in bytes room (frame .ensures))
       ∙ ap (λ l. drain (planIn bytes) (tableOf l) budget) (list .ensures)
 
 returns : tie.Need-returns
@@ -39,8 +47,17 @@ returns c = let a = c .before .before .args in no-drain (now (a .cell)) (omega a
 list-in-requires : tie.Need-list-in-requires
 list-in-requires c κs = search needs
 
-plan-in-requires : tie.Need-plan-in-requires
-plan-in-requires c κs = search needs
+frame-in-requires : tie.Need-frame-in-requires
+frame-in-requires c κs = search needs
+
+sub-drain : tie.Need-sub-drain
+sub-drain c = search needs
+
+part-drain-start : tie.Need-part-drain-start
+part-drain-start c = search needs
+
+part-drain-end : tie.Need-part-drain-end
+part-drain-end c = search needs
 
 drain-requires : tie.Need-drain-requires
 drain-requires c κs = search needs
@@ -60,7 +77,7 @@ returns-2 c =
     let m = n .before .before in
     let made = ap (λ x. x .moves) (drained m) in
     let none : 0 ≡ d m .moves = omega (arith, made) in
-    let law = drain-still (bytes m) (omega arith) (budget m) (omega (arith, none)) in (
+    let law = drain-still (bytes m) (room m) (budget m) (omega (arith, none)) in (
       c .pack .ensures
           ∙ ap (λ k. packed k 0 0) (n .end-number .ensures ∙ ap (λ x. endNumber (x .end)) (drained m))
           ∙ ap (λ k. packed (endNumber (d m .end)) k 0) none
@@ -82,7 +99,7 @@ returns-3 c =
     let n = c .before .before .before .before .before .before .before in
     let m = n .before .before in
     let made = ap (λ x. x .moves) (drained m) in
-    let law = drain-moved (bytes m) (omega arith) (budget m) (omega (arith, made)) in (
+    let law = drain-moved (bytes m) (room m) (budget m) (omega (arith, made)) in (
       c .pack2 .ensures
           ∙ ap (λ k. packed k (m .drain .result .moves) 0) (n .end-number .ensures ∙ ap (λ x. endNumber (x .end)) (drained m))
           ∙ ap (λ k. packed (endNumber (d m .end)) k 0) made
@@ -96,7 +113,10 @@ drain-at-spec =
     (tie.spec
     returns
     list-in-requires
-    plan-in-requires
+    frame-in-requires
+    sub-drain
+    part-drain-start
+    part-drain-end
     drain-requires
     end-number-requires
     pack-requires

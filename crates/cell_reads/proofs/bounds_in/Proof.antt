@@ -4,28 +4,26 @@ use mathlib.Core.Path.{_≡_, refl, sym, _∙_}
 use native.Mathlib.Omega.{arith}
 use native.Mathlib.Numerals.{add-one}
 use denote.Ref.{now}
-use lib.ListN.{length, take, drop, length-set}
+use lib.ListN.{length, take, length-set}
 use lib.Seq.{take-suc-set, take-all}
-use Rattle.cell_layout.specs.Layout.{entriesIn, numberOf, boundAt}
+use Rattle.plan_bytes.specs.Over.{entriesIn}
+use Rattle.cell_layout.specs.Layout.{numberOf}
 use Rattle.cell_layout.proofs.Entries.{entries-more}
 use borrow.Author.Needs.{needs}
 use Rattle.cell_reads.proofs.bounds_in.Statement.{statement}
 use Rattle.cell_reads.proofs.bounds_in.Tie as tie
 
 abbrev Inv-loop : tie.InvT-loop
-Inv-loop cell bounds₀ i₀ bounds i = (i ≤ 32) × (length bounds ≡ 32) × (take i bounds ≡ entriesIn numberOf 2 i (drop boundAt cell))
+Inv-loop part bounds₀ i₀ bounds i = (i ≤ 32) × (length bounds ≡ 32) × (take i bounds ≡ entriesIn numberOf 2 i part)
 
 abbrev μ-loop : tie.MeasureT-loop
-μ-loop cell bounds₀ i₀ bounds i = 32 - i
+μ-loop part bounds₀ i₀ bounds i = 32 - i
 
 loop-holds : tie.Need-loop-holds Inv-loop μ-loop
 loop-holds c = (search needs, refl, refl)
 
 mul-bound-at : tie.Need-mul-bound-at Inv-loop μ-loop
 mul-bound-at c = search needs
-
-add-bound-at : tie.Need-add-bound-at Inv-loop μ-loop
-add-bound-at c = search needs
 
 bound-at-requires : tie.Need-bound-at-requires Inv-loop μ-loop
 bound-at-requires c κs = search needs
@@ -45,9 +43,9 @@ loop-less c = search needs
 loop-again : tie.Need-loop-again Inv-loop μ-loop
 loop-again c =
     let l = c .before .before .loop in
-    let bytes = now (c .before .before .before .before .args .cell) in
+    let bytes = now (c .before .before .before .before .args .part) in
     let written = take-suc-set (l .bounds) (l .i) (c .bound-at .result) (omega arith) in
-    let more = entries-more numberOf 2 (l .i) boundAt bytes refl in
+    let more = entries-more numberOf 2 (l .i) bytes in
     (search needs, simp length-set (l .inv .1), rw (add-one, written, l .inv .2, c .bound-at .ensures) (sym more))
 
 returns : tie.Need-returns Inv-loop μ-loop
@@ -64,7 +62,6 @@ bounds-in-spec =
     μ-loop
     loop-holds
     mul-bound-at
-    add-bound-at
     bound-at-requires
     mul-bounds
     array-write-bounds

@@ -1,38 +1,105 @@
--- There are bytes enough, or too few.
+-- There are bytes enough, or too few. The jobs written are those passed, and the rest is as it was.
+use Prim.Native.Nat.{_-_, _≤_}
 use native.Mathlib.Omega.{arith}
-use Rattle.cell_layout.specs.Layout.{listLaid}
+use native.Mathlib.Numerals.{add-one}
+use mathlib.Core.Path.{_≡_, refl, sym, ap, _∙_}
 use denote.Ref.{now}
+use lib.ListN.{length, take, length-set}
+use lib.Seq.{take-suc-set, take-all}
+use Rattle.events.specs.JobList.{listOf}
+use Rattle.events.specs.declared.JobList.{JobList}
+use Rattle.plan_bytes.specs.Over.{entriesIn}
+use Rattle.cell_layout.specs.Layout.{jobIn, jobSize, partIn, jobsPart, listLaid, listIn}
 use Rattle.cell_layout.proofs.Cells.{is-cell, no-cell}
+use Rattle.cell_layout.proofs.Entries.{entries-more}
 use borrow.Author.Needs.{needs}
 use Rattle.cell_reads.proofs.list_in.Statement.{statement}
 use Rattle.cell_reads.proofs.list_in.Tie as tie
 
-no-jobs-requires : tie.Need-no-jobs-requires
+abbrev Inv-loop : tie.InvT-loop
+Inv-loop cell list₀ i₀ list i =
+    (i ≤ 64) × (length (list .jobs) ≡ 64) × (take i (list .jobs) ≡ entriesIn jobIn jobSize i (partIn jobsPart cell)) × (list .count ≡ listIn cell .count)
+
+abbrev μ-loop : tie.MeasureT-loop
+μ-loop cell list₀ i₀ list i = 64 - i
+
+no-jobs-requires : tie.Need-no-jobs-requires Inv-loop μ-loop
 no-jobs-requires c κs = search needs
 
-returns : tie.Need-returns
-returns c = rw (no-cell (now (c .before .before .before .args .cell)) (omega arith)) (c .no-jobs .ensures)
+returns : tie.Need-returns Inv-loop μ-loop
+returns c = rw (no-cell (now (c .before .before .before .args .cell)) (omega arith)) (c .before .no-jobs .ensures)
 
-shared-slice-read-u8-to-usize : tie.Need-shared-slice-read-u8-to-usize
-shared-slice-read-u8-to-usize c = search needs
+count-in-requires : tie.Need-count-in-requires Inv-loop μ-loop
+count-in-requires c κs = search needs
 
-u8-to-usize-requires : tie.Need-u8-to-usize-requires
-u8-to-usize-requires c κs = search needs
+loop-holds : tie.Need-loop-holds Inv-loop μ-loop
+unfolding listOf
+loop-holds c =
+    (search needs, ap (λ (l : JobList). length (l .jobs)) (c .before .before .no-jobs .ensures), refl, c .count-in .ensures)
 
-jobs-in-requires : tie.Need-jobs-in-requires
-jobs-in-requires c κs = search needs
+sub-job-at : tie.Need-sub-job-at Inv-loop μ-loop
+sub-job-at c = search needs
 
-returns-2 : tie.Need-returns-2
+part-job-at-start : tie.Need-part-job-at-start Inv-loop μ-loop
+part-job-at-start c = search needs
+
+part-job-at-end : tie.Need-part-job-at-end Inv-loop μ-loop
+part-job-at-end c = search needs
+
+mul-job-at : tie.Need-mul-job-at Inv-loop μ-loop
+mul-job-at c = search needs
+
+job-at-requires : tie.Need-job-at-requires Inv-loop μ-loop
+job-at-requires c κs = search needs
+
+mul-t14 : tie.Need-mul-t14 Inv-loop μ-loop
+mul-t14 c = search needs
+
+element-set-from-list : tie.Need-element-set-from-list Inv-loop μ-loop
+element-set-from-list c = search needs
+
+add-i : tie.Need-add-i Inv-loop μ-loop
+add-i c = search needs
+
+loop-less : tie.Need-loop-less Inv-loop μ-loop
+loop-less c = search needs
+
+loop-again : tie.Need-loop-again Inv-loop μ-loop
+loop-again c =
+    let l = c .before .before .before .loop in
+    let bytes = now (c .before .before .before .before .before .before .before .before .args .cell) in
+    let written = take-suc-set (l .list .jobs) (l .i) (c .job-at .result) (omega arith) in
+    let more = entries-more jobIn jobSize (l .i) (partIn jobsPart bytes) in
+    (search needs, simp length-set (l .inv .1), rw (add-one, written, l .inv .2, c .job-at .ensures) (sym more), l .inv .3)
+
+returns-2 : tie.Need-returns-2 Inv-loop μ-loop
 unfolding listLaid
-returns-2 c = rw (is-cell (now (c .before .before .before .before .before .args .cell)) (omega arith)) (λ i. record { count = c .before .u8-to-usize .ensures i; jobs = c .jobs-in .ensures i })
+returns-2 c =
+    let l = c .before .loop in
+    let all : l .i ≡ 64 = omega arith in
+    let jobs = sym (take-all 64 (l .list .jobs) (omega arith)) ∙ rw all at (l .inv .2) in
+    let whole = is-cell (now (c .before .before .before .before .before .before .args .cell)) (omega arith) in
+    let count = rw whole at (l .inv .3) in
+    rw whole (λ i. record { count = count i; jobs = jobs i })
 
 pub list-in-spec : {M : Type 1} → statement M
 list-in-spec =
     tie.close
     (tie.spec
+    Inv-loop
+    μ-loop
     no-jobs-requires
     returns
-    shared-slice-read-u8-to-usize
-    u8-to-usize-requires
-    jobs-in-requires
+    count-in-requires
+    loop-holds
+    sub-job-at
+    part-job-at-start
+    part-job-at-end
+    mul-job-at
+    job-at-requires
+    mul-t14
+    element-set-from-list
+    add-i
+    loop-less
+    loop-again
     returns-2)

@@ -5,20 +5,20 @@ use native.Mathlib.Numerals.{add-one}
 use mathlib.Core.Path.{_≡_, refl}
 use denote.Ref.{now}
 use lib.ListN.{length}
-use Rattle.cell_layout.specs.Layout.{bytesOf, boundAt, cellSize}
+use Rattle.cell_layout.specs.Layout.{bytesOf, offsetOf, boundsPart, cellSize}
 use Rattle.cell_layout.proofs.Entries.{Written, none-written, more-written, all-written, written-length}
 use borrow.Author.Needs.{needs}
 use Rattle.cell_writes.proofs.put_bounds.Statement.{statement}
 use Rattle.cell_writes.proofs.put_bounds.Tie as tie
 
 abbrev Inv-loop : tie.InvT-loop
-Inv-loop cell₀ bound i₀ cell i = (i ≤ 32) × (length bound ≡ 32) × (cellSize ≤ length cell) × Written (bytesOf 2) 2 boundAt bound cell₀ i cell
+Inv-loop cell₀ bound i₀ cell i = (i ≤ 32) × (length bound ≡ 32) × (cellSize ≤ length cell) × Written (bytesOf 2) 2 (offsetOf boundsPart) bound cell₀ i cell
 
 abbrev μ-loop : tie.MeasureT-loop
 μ-loop cell₀ bound i₀ cell i = 32 - i
 
 loop-holds : tie.Need-loop-holds Inv-loop μ-loop
-loop-holds c = let a = c .before .args in (search needs, c .before .good .0 .1 .0 .1, search needs, none-written (bytesOf 2) 2 boundAt (a .t1) (now (a .cell)))
+loop-holds c = let a = c .before .args in (search needs, c .before .good .0 .1 .0 .1, search needs, none-written (bytesOf 2) 2 (offsetOf boundsPart) (a .t1) (now (a .cell)))
 
 mul-put-bound : tie.Need-mul-put-bound Inv-loop μ-loop
 mul-put-bound c = search needs
@@ -45,14 +45,14 @@ loop-again : tie.Need-loop-again Inv-loop μ-loop
 loop-again c =
     let t = c .before .before .before .before .before in
     let a = t .before .before .args in
-    let next = more-written (bytesOf 2) 2 boundAt (a .t1) (now (a .cell)) (t .loop .i) 0 (omega arith) (t .loop .inv .3) refl refl (c .before .before .put-bound .ensures) in
-    (search needs, t .loop .inv .1, omega (arith, written-length (bytesOf 2) 2 boundAt (a .t1) (now (a .cell)) _ next, written-length (bytesOf 2) 2 boundAt (a .t1) (now (a .cell)) _ (t .loop .inv .3)), rw add-one next)
+    let next = more-written (bytesOf 2) 2 (offsetOf boundsPart) (a .t1) (now (a .cell)) (t .loop .i) 0 (omega arith) (t .loop .inv .3) refl refl (c .before .before .put-bound .ensures) in
+    (search needs, t .loop .inv .1, omega (arith, written-length (bytesOf 2) 2 (offsetOf boundsPart) (a .t1) (now (a .cell)) _ next, written-length (bytesOf 2) 2 (offsetOf boundsPart) (a .t1) (now (a .cell)) _ (t .loop .inv .3)), rw add-one next)
 
 same-length : tie.Need-same-length Inv-loop μ-loop
-same-length c = let a = c .before .before .before .args in written-length (bytesOf 2) 2 boundAt (a .t1) (now (a .cell)) _ (c .before .loop .inv .3)
+same-length c = let a = c .before .before .before .args in written-length (bytesOf 2) 2 (offsetOf boundsPart) (a .t1) (now (a .cell)) _ (c .before .loop .inv .3)
 
 returns : tie.Need-returns Inv-loop μ-loop
-returns c = let a = c .before .before .before .args in all-written (bytesOf 2) 2 boundAt (a .t1) (now (a .cell)) _ (omega arith) (c .before .loop .inv .3)
+returns c = let a = c .before .before .before .args in all-written (bytesOf 2) 2 (offsetOf boundsPart) (a .t1) (now (a .cell)) _ (omega arith) (c .before .loop .inv .3)
 
 pub put-bounds-spec : {M : Type 1} → statement M
 put-bounds-spec =

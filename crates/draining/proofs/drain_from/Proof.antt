@@ -15,17 +15,18 @@ use Rattle.events.specs.declared.End.{End}
 use Rattle.events.specs.declared.End.the-variants.{Emptied, OutOfBudget, NoMove}
 use Rattle.model.proofs.Lists.{each-getD}
 use Rattle.parts.proofs.DrainLoop.{after, after-none, after-stopped, after-more, drain-empty, drain-spent, drain-stuck, drain-goes, next-list, next-agrees}
+use Rattle.plan_bytes.specs.Over.{planRead, planOver}
 use borrow.Author.Needs.{needs}
 use Rattle.draining.proofs.drain_from.Statement.{statement}
 use Rattle.draining.proofs.drain_from.Tie as tie
 
 abbrev Inv-loop : tie.InvT-loop
-Inv-loop p ceilings budget lengths t₀ moves₀ t moves =
-    Sound p × Agrees p t × (ceilings ≡ ceilingsOf p) × (lengths ≡ p .lengths) × (moves ≤ budget)
-    × (drainFrom p budget t₀ ≡ after moves (drainFrom p (budget - moves) t))
+Inv-loop stages ceilings budget frame t₀ moves₀ t moves =
+    let p = planOver frame stages in
+    Sound p × Agrees p t × (ceilings ≡ ceilingsOf p) × (moves ≤ budget) × (drainFrom p budget t₀ ≡ after moves (drainFrom p (budget - moves) t))
 
 abbrev μ-loop : tie.MeasureT-loop
-μ-loop p ceilings budget lengths t₀ moves₀ t moves = budget - moves
+μ-loop stages ceilings budget frame t₀ moves₀ t moves = budget - moves
 
 -- at the head of the loop
 module _ (c : tie.At-loop Inv-loop μ-loop) where
@@ -33,7 +34,7 @@ module _ (c : tie.At-loop Inv-loop μ-loop) where
   start = c .before .before
 
   abbrev plan : Plan
-  plan = start .args .p
+  plan = planOver (start .args .t1) (start .args .stages .now)
 
   abbrev list : JobList
   list = c .loop .t
@@ -53,7 +54,7 @@ module _ (c : tie.At-loop Inv-loop μ-loop) where
   -- a drain that stops here has made the moves made
   stops : (e : End) → drainFrom plan (budget - moves) list ≡ stopped e list
       → record { end = e; moves = moves; list = list } ≡ drainFrom plan budget (start .args .t)
-  stops e h = sym (c .loop .inv .5 ∙ ap (after moves) h ∙ after-stopped moves (stopped e list) refl)
+  stops e h = sym (c .loop .inv .4 ∙ ap (after moves) h ∙ after-stopped moves (stopped e list) refl)
 
 abbrev head : tie.After-earliest Inv-loop μ-loop → tie.At-loop Inv-loop μ-loop
 head c = c .before .before .before .before
@@ -99,7 +100,7 @@ module _ (c : tie.Else3 Inv-loop μ-loop) where
   goes =
       let n = budget turn - moves turn in
       let rest : n - 1 ≡ budget turn - (moves turn + 1) = omega arith in
-      turn .loop .inv .5
+      turn .loop .inv .4
       ∙ ap (after (moves turn)) (drain-goes p t (sound turn) (agrees turn) left at (found .earliest .ensures) low n (omega arith))
       ∙ after-more (moves turn) _
       ∙ ap (λ n. after (moves turn + 1) (drainFrom p n next)) rest
@@ -109,7 +110,7 @@ loop-holds c =
     let s = c .before in
     let a = s .args in
     let whole : a .budget ≡ a .budget - 0 = omega arith in
-    (s .pre .0, s .pre .1, s .pre .2, refl, search needs, after-none _ ∙ ap (λ n. after 0 (drainFrom (a .p) n (a .t))) whole)
+    (s .pre .0, s .pre .1, s .pre .2, search needs, after-none _ ∙ ap (λ n. after 0 (drainFrom (planOver (a .t1) (a .stages .now)) n (a .t))) whole)
 
 returns : tie.Need-returns Inv-loop μ-loop
 returns c =
@@ -128,7 +129,7 @@ returns-2 c =
 
 after-move-requires : tie.Need-after-move-requires Inv-loop μ-loop
 after-move-requires c κs =
-    let e = c .before in
+    let e = c .before .before in
     (low e, agrees (turn e) .few, omega (arith, staged e .1, sound (turn e) .lengths _ (staged e .0)))
 
 add-moves : tie.Need-add-moves Inv-loop μ-loop
@@ -138,12 +139,13 @@ loop-less : tie.Need-loop-less Inv-loop μ-loop
 loop-less c = search needs
 
 loop-again : tie.Need-loop-again Inv-loop μ-loop
+unfolding planOver planRead
 loop-again c =
-    let e = c .before .before in
+    let e = c .before .before .before in
     let k = turn e in
-    let made = c .after-move .ensures (plan k) (sound k) (agrees k) (sym (k .loop .inv .3)) ∙ leads e in
+    let made = c .after-move .ensures (plan k) (sound k) (agrees k) refl ∙ leads e in
     let drained = goes e ∙ ap (λ u. after (moves k + 1) (drainFrom (plan k) (budget k - (moves k + 1)) u)) (sym made) in
-    (sound k, subst⁻¹ (Agrees (plan k)) made (next-agreeing e), k .loop .inv .2, k .loop .inv .3, omega arith, drained)
+    (sound k, subst⁻¹ (Agrees (plan k)) made (next-agreeing e), k .loop .inv .2, omega arith, drained)
 
 returns-3 : tie.Need-returns-3 Inv-loop μ-loop
 returns-3 c =

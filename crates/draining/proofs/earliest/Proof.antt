@@ -2,50 +2,63 @@
 use Prim.Native.Nat.{ℕ, suc, _+_, _-_, _≤_, _<_}
 use native.Mathlib.Omega.{arith}
 use mathlib.Core.Bool.{true, false}
+use mathlib.Core.List.{List}
 use mathlib.Core.Logic.{_≢_}
 use mathlib.Core.Path.{_≡_, refl, sym, ap, _∙_}
-use lib.ListN.{drop, getD}
+use lib.ListN.{length, drop, getD}
 use Rattle.model.specs.Limits.{maxAllStages}
-use Rattle.model.specs.Plan.{lengthOf}
+use Rattle.model.specs.Plan.{noStage, lengthOf}
 use Rattle.model.specs.Jobs.{noJob, HasNext, AtStage}
 use Rattle.model.specs.Soundness.{Sound}
 use Rattle.model.specs.declared.Plan.{Plan}
 use Rattle.model.specs.declared.Job.{Job}
-use Rattle.model.proofs.Arrays.{plan-stages}
+use Rattle.model.proofs.Decide.{passes}
+use Rattle.model.proofs.Soundness.{decides-sound}
 use Rattle.events.specs.JobList.{jobsOf, Agrees}
 use Rattle.events.specs.Events.{isAdmitted, answer}
 use Rattle.events.specs.Drain.{moveOf}
 use Rattle.events.specs.declared.JobList.{JobList}
 use Rattle.events.proofs.AnswerTags.{refused-tag}
-use Rattle.parts.specs.Parts.{firstMovable}
-use Rattle.parts.proofs.StageIndex.{from-within, to-within, old-read, new-read}
+use Rattle.parts.specs.Parts.{sumsOf, firstMovable}
+use Rattle.parts.proofs.JobsLaid.{over-laid}
+use Rattle.parts.proofs.StageIndex.{to-within, old-read, new-read}
 use Rattle.parts.proofs.SumsAfter.{kept-same}
 use Rattle.parts.proofs.ListChanges.{count-is}
 use Rattle.parts.proofs.EarliestMove.{job-there-staged, has-next, last-moves, next-moves, movable-from, movable-none}
+use Rattle.plan_bytes.specs.Over.{stagesSize, planRead, planOver}
+use Rattle.plan_bytes.specs.declared.Frame.{Frame}
+use Rattle.plan_bytes.proofs.Over.{sound-whole, over-there, at-over}
 use borrow.Author.Needs.{needs}
 use Rattle.draining.proofs.earliest.Statement.{statement}
 use Rattle.draining.proofs.earliest.Tie as tie
 
 abbrev Inv-loop : tie.InvT-loop
-Inv-loop ceilings p t sums lengths count i₀ i =
+Inv-loop stages ceilings frame t count sums i₀ i =
+    let p = planOver frame stages in
     (i ≤ count) × (firstMovable p t (jobsOf t) ≡ i + firstMovable p t (drop i (jobsOf t)))
 
 abbrev μ-loop : tie.MeasureT-loop
-μ-loop ceilings p t sums lengths count i₀ i = count - i
+μ-loop stages ceilings frame t count sums i₀ i = count - i
 
 abbrev begun : tie.At-loop Inv-loop μ-loop → tie.Start Inv-loop μ-loop
-begun c = c .before .before .before
+begun c = c .before .before .before .before .before
 
 -- at a job of the list
 module _ (c : tie.In-loop Inv-loop μ-loop) where
   abbrev start : tie.Start Inv-loop μ-loop
   start = begun (c .before)
 
+  abbrev f : Frame
+  f = start .args .t1
+
+  abbrev bytes : List ℕ
+  bytes = start .args .stages .now
+
   abbrev plan : Plan
-  plan = start .args .t1
+  plan = planOver f bytes
 
   abbrev list : JobList
-  list = start .args .t2
+  list = start .args .t3
 
   abbrev i : ℕ
   i = c .before .loop .i
@@ -55,6 +68,9 @@ module _ (c : tie.In-loop Inv-loop μ-loop) where
 
   sound : Sound plan
   sound = start .pre .0
+
+  whole : length bytes ≡ stagesSize
+  whole = sound-whole f bytes (passes (decides-sound plan) sound)
 
   agrees : Agrees plan list
   agrees = start .pre .1
@@ -80,12 +96,12 @@ module _ (c : tie.In-loop Inv-loop μ-loop) where
       omega (arith, c .before .loop .inv .1)
 
 abbrev entered : tie.After-length-of Inv-loop μ-loop → tie.In-loop Inv-loop μ-loop
-entered c = c .before .before .before
+entered c = c .before .before .before .before
 
 -- at a job that is not at its last stage
 module _ (c : tie.After-stage-index Inv-loop μ-loop) where
   abbrev measured : tie.After-length-of Inv-loop μ-loop
-  measured = c .before .before .before .before
+  measured = c .before .before .before .before .before
 
   abbrev inside : tie.In-loop Inv-loop μ-loop
   inside = entered measured
@@ -97,35 +113,42 @@ module _ (c : tie.After-stage-index Inv-loop μ-loop) where
   j = job inside
 
   other : lengthOf p (j .kind) ≢ j .stage
-  other e = c .before .before .if1 .left (measured .length-of .ensures ∙ e)
+  unfolding planOver planRead
+  other e = c .before .before .before .if1 .left (measured .length-of .ensures ∙ e)
 
   more : HasNext p j
   more = has-next p (list inside) (sound inside) (agrees inside) (i inside) (low inside) other
 
-  from-there : c .stage-index .result < maxAllStages
-  from-there = from-within p (sound inside) j (staged inside) more _ (c .stage-index .ensures)
-
   to-there : c .stage-index .result + 1 < maxAllStages
+  unfolding planOver planRead
   to-there = to-within p (sound inside) j (staged inside) more _ (c .stage-index .ensures)
 
 -- what is tried is the job's move
 module _ (c : tie.After-kept-after Inv-loop μ-loop) where
   abbrev indexed : tie.After-stage-index Inv-loop μ-loop
-  indexed = c .before .before .before
+  indexed = c .before
 
   abbrev here : tie.In-loop Inv-loop μ-loop
   here = inside indexed
 
   says : answer (plan here) (list here) (moveOf (plan here) (job here)) ≡ c .kept-after .result
+  unfolding planOver planRead
   says =
-      let sums = here .before .before .before .sums-of .ensures in
+      let summed = here .before .before in
+      let laid = summed .before .before .laid in
+      let sums = summed .sums-of .ensures ∙ ap (λ u. sumsOf (plan here) (jobsOf u)) (over-laid (list here) (laid .result) (laid .ensures)) in
       let ceilings = start here .pre .2 in
-      let slots = plan-stages (plan here) _ (start here .good .0) in
+      let slots = over-there (f here) (bytes here) in
+      let from = sym (at-over (bytes here) (indexed .stage-index .result) (whole here) (f here)) in
+      let to = sym (at-over (bytes here) (indexed .stage-index .result + 1) (whole here) (f here)) in
       let index = indexed .stage-index .ensures in
-      let old = old-read (plan here) (sound here) (job here) (staged here) (more indexed) _ index _ slots in
-      let new = new-read (plan here) (sound here) (job here) (staged here) (more indexed) _ index _ slots in
+      let old = from ∙ old-read (plan here) (sound here) (job here) (staged here) (more indexed) _ index noStage slots in
+      let new = to ∙ new-read (plan here) (sound here) (job here) (staged here) (more indexed) _ index noStage slots in
       next-moves (plan here) (list here) (sound here) (agrees here) (i here) (low here) (other indexed) _ _ old new
       ∙ sym (c .kept-after .ensures ∙ kept-same sums ceilings refl _)
+
+laid-requires : tie.Need-laid-requires Inv-loop μ-loop
+laid-requires c κs = tt
 
 sums-of-requires : tie.Need-sums-of-requires Inv-loop μ-loop
 sums-of-requires c κs = tt
@@ -143,6 +166,7 @@ length-of-requires : tie.Need-length-of-requires Inv-loop μ-loop
 length-of-requires c κs = tt
 
 returns : tie.Need-returns Inv-loop μ-loop
+unfolding planOver planRead
 returns c =
     let h = entered (c .before .before) in
     let last = sym (c .before .before .length-of .ensures) ∙ c .if1 .taken in
@@ -151,20 +175,8 @@ returns c =
 stage-index-requires : tie.Need-stage-index-requires Inv-loop μ-loop
 stage-index-requires c κs = tt
 
-mul-old : tie.Need-mul-old Inv-loop μ-loop
-mul-old c = omega (arith, from-there c)
-
-element-copy-out-old : tie.Need-element-copy-out-old Inv-loop μ-loop
-element-copy-out-old c = from-there c
-
 add-to : tie.Need-add-to Inv-loop μ-loop
-add-to c = omega (arith, from-there (c .before))
-
-mul-new : tie.Need-mul-new Inv-loop μ-loop
-mul-new c = omega (arith, to-there (c .before))
-
-element-copy-out-new : tie.Need-element-copy-out-new Inv-loop μ-loop
-element-copy-out-new c = to-there (c .before)
+add-to c = let h = to-there c in search needs
 
 kept-after-requires : tie.Need-kept-after-requires Inv-loop μ-loop
 kept-after-requires c κs = tt
@@ -190,7 +202,8 @@ returns-3 : tie.Need-returns-3 Inv-loop μ-loop
 returns-3 c =
     let l = c .before .loop in
     let s = begun (c .before) in
-    omega (arith, l .inv .1, movable-none (s .args .t1) (s .args .t2) (l .i) (omega (arith, count-is (s .args .t1) (s .args .t2) (s .pre .1))))
+    let p = planOver (s .args .t1) (s .args .stages .now) in
+    omega (arith, l .inv .1, movable-none p (s .args .t3) (l .i) (omega (arith, count-is p (s .args .t3) (s .pre .1))))
 
 pub earliest-spec : {M : Type 1} → statement M
 earliest-spec =
@@ -198,6 +211,7 @@ earliest-spec =
     (tie.spec
     Inv-loop
     μ-loop
+    laid-requires
     sums-of-requires
     loop-holds
     mul-j
@@ -205,11 +219,7 @@ earliest-spec =
     length-of-requires
     returns
     stage-index-requires
-    mul-old
-    element-copy-out-old
     add-to
-    mul-new
-    element-copy-out-new
     kept-after-requires
     enum-told
     returns-2

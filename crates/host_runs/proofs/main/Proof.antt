@@ -41,7 +41,7 @@ small : (input : List ℕ) (n : ℕ) → length input ≤ 65536 → n ≡ planLe
 small input n short e = record { fits = omega (arith, short, e, plan-within input) }
 
 add-part-of : tie.Need-add-part-of
-add-part-of c = small _ _ (search needs) (c .before .before .before .plan-length .ensures)
+add-part-of c = small _ _ (search needs) (c .before .before .before .before .before .before .plan-length .ensures)
 
 part-of-requires-2 : tie.Need-part-of-requires-2
 part-of-requires-2 c κs = search needs

@@ -9,31 +9,31 @@ use lib.ListN.{length, set, getD}
 use Rattle.model.specs.Jobs.{noJob}
 use Rattle.events.proofs.Arrays.{list-slots}
 use Rattle.parts.specs.Parts.{withoutJob}
-use Rattle.parts.proofs.ClosingGap.{closedTo, closed-none, closed-more, closed-all}
+use Rattle.parts.proofs.ClosingGap.{closedTo, closed-none, closed-later, closed-more, closed-all}
 use Rattle.joblists.proofs.without_job.Statement.{statement}
 use Rattle.joblists.proofs.without_job.Tie as tie
 
 abbrev Inv-loop : tie.InvT-loop
-Inv-loop at t count next₀ i₀ next i =
-    (at ≤ i) × (i ≤ 63) × (length (t .jobs) ≡ 64) × (next .jobs ≡ closedTo (t .jobs) at noJob i)
+Inv-loop at count next₀ i₀ next i =
+    (at ≤ i) × (i ≤ 63) × (length (next₀ .jobs) ≡ 64) × (next .jobs ≡ closedTo (next₀ .jobs) at noJob i)
 
 abbrev μ-loop : tie.MeasureT-loop
-μ-loop at t count next₀ i₀ next i = 63 - i
+μ-loop at count next₀ i₀ next i = 63 - i
 
 returns : tie.Need-returns Inv-loop μ-loop
 unfolding withoutJob
-returns c = let a = c .before .args in rw (le-ltb (a .at) (a .t1 .count) (c .if1 .taken)) refl
+returns c = let a = c .before .args in rw (le-ltb (a .at) (a .t .count) (c .if1 .taken)) refl
 
 returns-2 : tie.Need-returns-2 Inv-loop μ-loop
 unfolding withoutJob
 returns-2 c =
     let a = c .before .before .args in
-    rw (lt-ltb (a .at) (a .t1 .count) (c .before .if1 .left), lt-leb (a .t1 .count) 64 (c .if2 .taken)) refl
+    rw (lt-ltb (a .at) (a .t .count) (c .before .if1 .left), lt-leb (a .t .count) 64 (c .if2 .taken)) refl
 
 loop-holds : tie.Need-loop-holds Inv-loop μ-loop
 loop-holds c =
     let s = c .before .before in
-    let t = s .args .t1 in
+    let t = s .args .t in
     (search needs, omega arith, list-slots t _ (s .good .0), sym (closed-none (t .jobs) (s .args .at) noJob))
 
 add-from : tie.Need-add-from Inv-loop μ-loop
@@ -61,10 +61,10 @@ loop-again : tie.Need-loop-again Inv-loop μ-loop
 loop-again c =
     let l = c .before .before .loop in
     let a = c .before .before .before .before .before .args in
-    let js = a .t1 .jobs in
-    let read = getD js (l .i + 1) noJob in
+    let js = a .t .jobs in
+    let later = closed-later js (a .at) noJob (l .i) (l .inv .0) (omega arith) in
     let more = closed-more js (a .at) noJob (l .i) (l .inv .0) (omega arith) (omega arith) in
-    (search needs, search needs, l .inv .2, ap (λ next. set next (l .i) read) (l .inv .3) ∙ more)
+    (search needs, search needs, l .inv .2, ap (λ next. set next (l .i) (getD next (l .i + 1) noJob)) (l .inv .3) ∙ ap (set (closedTo js (a .at) noJob (l .i)) (l .i)) later ∙ more)
 
 no-job-requires : tie.Need-no-job-requires Inv-loop μ-loop
 no-job-requires c κs = search needs
@@ -81,12 +81,12 @@ returns-3 c =
     let l = c .before .before .loop in
     let tested = c .before .before .before in
     let a = tested .before .before .args in
-    let js = a .t1 .jobs in
+    let js = a .t .jobs in
     let last : l .i ≡ 63 = omega arith in
     let closed : l .next .jobs ≡ closedTo js (a .at) noJob 63 = rw last at (l .inv .3) in
     let all = closed-all js (a .at) noJob 63 (omega arith) (omega arith) (omega arith) noJob in
-    rw (lt-ltb (a .at) (a .t1 .count) (tested .before .if1 .left), le-leb (a .t1 .count) 64 (tested .if2 .left), c .no-job .ensures, add-one)
-    (ap (λ jobs. record { count = a .t1 .count - 1; jobs = jobs }) (ap (λ next. set next 63 noJob) closed ∙ all))
+    rw (lt-ltb (a .at) (a .t .count) (tested .before .if1 .left), le-leb (a .t .count) 64 (tested .if2 .left), c .no-job .ensures, add-one)
+    (ap (λ jobs. record { count = a .t .count - 1; jobs = jobs }) (ap (λ next. set next 63 noJob) closed ∙ all))
 
 pub without-job-spec : {M : Type 1} → statement M
 without-job-spec =

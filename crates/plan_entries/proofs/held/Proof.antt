@@ -3,6 +3,7 @@ use mathlib.Core.List.{[], _∷_}
 use mathlib.Core.Path.{refl, sym}
 use borrow.Author.Needs.{needs}
 use Rattle.model.specs.Numbers.{at}
+use Rattle.plan_bytes.specs.Over.{stageIn}
 use Rattle.entries.proofs.Outside.{unmatched}
 use Rattle.plan_entries.proofs.held.Statement.{statement}
 use Rattle.plan_entries.proofs.held.Tie as tie
@@ -13,17 +14,17 @@ entry-of-requires c κs = search needs
 entry-of-requires-2 : tie.Need-entry-of-requires-2
 entry-of-requires-2 c κs = search needs
 
+demand-in-requires : tie.Need-demand-in-requires
+demand-in-requires c κs = search needs
+
 entry-of-requires-3 : tie.Need-entry-of-requires-3
 entry-of-requires-3 c κs = search needs
 
+weight-in-requires : tie.Need-weight-in-requires
+weight-in-requires c κs = search needs
+
 entry-of-requires-4 : tie.Need-entry-of-requires-4
 entry-of-requires-4 c κs = search needs
-
-entry-of-requires-5 : tie.Need-entry-of-requires-5
-entry-of-requires-5 c κs = search needs
-
-entry-of-requires-6 : tie.Need-entry-of-requires-6
-entry-of-requires-6 c κs = search needs
 
 returns : tie.Need-returns
 returns c = rw (c .match .keys1) refl
@@ -35,29 +36,30 @@ returns-3 : tie.Need-returns-3
 returns-3 c = rw (c .before .before .match .keys3) (c .entry-of2 .ensures)
 
 returns-4 : tie.Need-returns-4
-returns-4 c = rw (c .before .before .before .before .match .keys4) (c .entry-of3 .ensures)
+returns-4 c = rw (c .before .match .keys4) (c .demand-in .ensures)
 
 returns-5 : tie.Need-returns-5
-returns-5 c = rw (c .before .before .match .keys5) (c .entry-of4 .ensures)
+returns-5 c = rw (c .before .before .match .keys5) (c .entry-of3 .ensures)
 
 returns-6 : tie.Need-returns-6
-returns-6 c = rw (c .before .before .before .before .match .keys6) (c .entry-of5 .ensures)
+returns-6 c = rw (c .before .match .keys6) (c .weight-in .ensures)
 
 returns-7 : tie.Need-returns-7
-returns-7 c = rw (c .before .before .match .keys7) (c .entry-of6 .ensures)
+returns-7 c = rw (c .before .before .match .keys7) (c .entry-of4 .ensures)
 
 returns-8 : tie.Need-returns-8
 returns-8 c =
-    let a = c .before .args in
+    let a = c .before .before .args in
+    let s = stageIn (a .stage .now) in
     let r = a .rec in
     sym
     (unmatched
     (a .section
     ∷ at (a .capacity .now) (r .first)
     ∷ at (a .lengths .now) (r .first)
-    ∷ at (a .t3 .demand) (r .third)
+    ∷ at (s .demand) (r .third)
     ∷ at (a .bounded .now) (r .first)
-    ∷ at (a .t3 .weight) (r .first)
+    ∷ at (s .weight) (r .first)
     ∷ at (a .rank .now) (r .first)
     ∷ [])
     (r .section) 0 (c .match .rest))
@@ -68,10 +70,10 @@ held-spec =
     (tie.spec
     entry-of-requires
     entry-of-requires-2
+    demand-in-requires
     entry-of-requires-3
+    weight-in-requires
     entry-of-requires-4
-    entry-of-requires-5
-    entry-of-requires-6
     returns
     returns-2
     returns-3

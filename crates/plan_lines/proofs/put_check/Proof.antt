@@ -1,11 +1,11 @@
 -- The three numbers are those of the check's answer.
-use mathlib.Core.Path.{_≡_, ap, _∙_}
+use mathlib.Core.Path.{ap, _∙_}
 use denote.Ref.{now}
 use lib.ListN.{length}
 use borrow.Author.Needs.{needs}
 use Rattle.model.specs.Upstream.{checkNumbers}
 use Rattle.model.specs.declared.Check.{Check}
-use Rattle.moves_text.specs.OutputLines.{checkLine, aboutCheck}
+use Rattle.moves_text.specs.OutputLines.{checkLine}
 use Rattle.moves_text.specs.Space.{overlaidAt}
 use Rattle.plan_lines.proofs.put_check.Statement.{statement}
 use Rattle.plan_lines.proofs.put_check.Tie as tie
@@ -35,7 +35,7 @@ returns c =
     let first = second .before in
     let number = first .before in
     let checked = number .before in
-    let a = checked .before .before .args in
+    let a = checked .before .before .before .args in
     let line =
     (λ i. checkLine (number .check-number .ensures i) (first .check-first .ensures i) (second .check-second .ensures i))
     ∙ ap (λ (x : Check). let n = checkNumbers x in checkLine (n .0) (n .1) (n .2)) (checked .upstream-check .ensures) in (

@@ -54,9 +54,10 @@ same-length c = search needs
 returns : tie.Need-returns
 returns c =
     let put = c .before .before in
-    let n = put .before .before .before in
+    let accepted = put .before .before .before .before .before .before in
+    let n = accepted .before in
     let space = now (begun n .args .space) in
-    let zero = sym (number-told n) ∙ put .before .before .if1 .taken in
+    let zero = sym (number-told n) ∙ accepted .if1 .taken in
     let plan = ap (λ (r : Reading). r .plan) (n .before .read .ensures) in
     let w = accepted-written (text n) zero space in (
       ap (λ (x : Writing). x .length) (put .write-plan .ensures .0 ∙ ap (λ p. writing p space) plan) ∙ w .0 ∙ ap (λ bs. lengthFilled bs space) (spelled (text n) zero),

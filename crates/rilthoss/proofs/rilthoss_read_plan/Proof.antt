@@ -1,9 +1,7 @@
 -- What is answered and written is what the reading of the text says.
-use Prim.Native.Nat.{ℕ, _≤_}
 use native.Mathlib.Omega.{arith}
-use mathlib.Core.Path.{_≡_, refl, ap, _∙_}
+use mathlib.Core.Path.{ap, _∙_}
 use denote.Ref.{now}
-use Rattle.plan_text.specs.TextQuestions.{textNumber}
 use Rattle.cell_layout.specs.Layout.{withPlan}
 use Rattle.cell_layout.specs.HostAnswers.{packed, packedReading, readAnswer, readCell}
 use Rattle.cell_layout.proofs.Cells.{is-cell}
@@ -35,7 +33,7 @@ unfolding readAnswer readCell
 returns-2 c =
     let number = c .before in
     let put = c .before .before .before .before in
-    let r = put .before .before in
+    let r = put .before .before .before .before .before .before in
     let a = r .before .before .before .before .args in
     let text = r .read in (
       rw (is-cell (now (a .cell)) (omega arith))

@@ -8,8 +8,10 @@ use Rattle.plan_text.specs.TextQuestions.{maxText}
 use Rattle.plan_spelling.specs.Writing.{writing, spaceAfter}
 use Rattle.plan_spelling.specs.declared.Writing.{Writing}
 use Rattle.plan_spelling.proofs.WriteAnswers.{writing-short}
-use Rattle.cell_layout.specs.Layout.{planIn}
+use Rattle.plan_bytes.specs.Over.{planOver}
+use Rattle.cell_layout.specs.Layout.{stagesPart, partIn, planIn}
 use Rattle.cell_layout.specs.HostAnswers.{packed, packedWriting}
+use Rattle.cell_layout.proofs.Lent.{lent-in}
 use Rattle.cell_layout.proofs.HostAnswers.{no-write, plan-written}
 use borrow.Author.Needs.{needs}
 use Rattle.rilthoss.proofs.rilthoss_write_plan.Statement.{statement}
@@ -17,17 +19,20 @@ use Rattle.rilthoss.proofs.rilthoss_write_plan.Tie as tie
 
 -- where the plan is written
 module _ (c : tie.After-write-plan) where
-  abbrev held : tie.After-plan-in
-  held = c .before .before
+  abbrev held : tie.After-frame-in
+  held = c .before .before .before
 
   abbrev begun : tie.Start
   begun = held .before .before .before .before
+
+  same : planOver (held .frame-in .result) (partIn stagesPart (now (begun .args .cell))) ≡ planIn (now (begun .args .cell))
+  same = lent-in (now (begun .args .cell)) (omega (arith, held .before .if1 .left)) (held .frame-in .ensures)
 
   abbrev space : List ℕ
   space = now (begun .args .space)
 
   told : c .write-plan .result ≡ writing (planIn (now (begun .args .cell))) space
-  told = c .write-plan .ensures .0 ∙ ap (λ p. writing p space) (held .plan-in .ensures)
+  told = c .write-plan .ensures .0 ∙ ap (λ p. writing p space) same
 
   short : c .write-plan .result .length ≤ maxText
   short = omega (arith, ap (λ (w : Writing). w .length) told, writing-short (planIn (now (begun .args .cell))) space)
@@ -35,8 +40,17 @@ module _ (c : tie.After-write-plan) where
 returns : tie.Need-returns
 returns c = let a = c .before .before .before .args in no-write (now (a .cell)) (omega arith) (now (a .space))
 
-plan-in-requires : tie.Need-plan-in-requires
-plan-in-requires c κs = search needs
+frame-in-requires : tie.Need-frame-in-requires
+frame-in-requires c κs = search needs
+
+sub-write-plan : tie.Need-sub-write-plan
+sub-write-plan c = search needs
+
+part-write-plan-start : tie.Need-part-write-plan-start
+part-write-plan-start c = search needs
+
+part-write-plan-end : tie.Need-part-write-plan-end
+part-write-plan-end c = search needs
 
 write-plan-requires : tie.Need-write-plan-requires
 write-plan-requires c κs = search needs
@@ -60,7 +74,7 @@ returns-2 c =
     let cell = now (begun put .args .cell) in
     let w = plan-written cell (omega (arith, held put .before .if1 .left)) (space put) in (
       c .pack .ensures ∙ ap (λ n. packed n (put .write-plan .result .length) 0) (number .write-number .ensures) ∙ ap packedWriting (told put) ∙ w .0,
-      put .write-plan .ensures .1 ∙ ap (λ p. spaceAfter p (space put)) (held put .plan-in .ensures) ∙ w .1,
+      put .write-plan .ensures .1 ∙ ap (λ p. spaceAfter p (space put)) (same put) ∙ w .1,
     )
 
 pub rilthoss-write-plan-spec : {M : Type 1} → statement M
@@ -68,7 +82,10 @@ rilthoss-write-plan-spec =
     tie.close
     (tie.spec
     returns
-    plan-in-requires
+    frame-in-requires
+    sub-write-plan
+    part-write-plan-start
+    part-write-plan-end
     write-plan-requires
     write-number-requires
     cast-pack

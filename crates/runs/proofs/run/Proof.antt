@@ -6,6 +6,7 @@ use mathlib.Core.Path.{_≡_, sym, ap, _∙_}
 use borrow.Author.Tests.{ltb-true, ltb-false}
 use lib.ListN.{length, getD}
 use Rattle.model.specs.declared.Plan.{Plan}
+use Rattle.plan_bytes.specs.Over.{planOver}
 use Rattle.admission.specs.declared.Table.{Table}
 use Rattle.runs.specs.Run.{eventsOf, ran}
 use Rattle.runs.specs.declared.Ran.{Ran}
@@ -25,19 +26,20 @@ use Rattle.runs.proofs.run.Statement.{statement}
 use Rattle.runs.proofs.run.Tie as tie
 
 abbrev Inv-loop : tie.InvT-loop
-Inv-loop p letters jobs kinds t₀ admitted₀ i₀ t admitted i =
+Inv-loop frame stages letters jobs kinds t₀ admitted₀ i₀ t admitted i =
+    let p = planOver frame stages in
     (admitted ≤ i) × (ran p t₀ (eventsOf letters jobs kinds) ≡ after admitted (ran p t (eventsFrom letters jobs kinds i)))
 
 abbrev μ-loop : tie.MeasureT-loop
-μ-loop p letters jobs kinds t₀ admitted₀ i₀ t admitted i = length letters - i
+μ-loop frame stages letters jobs kinds t₀ admitted₀ i₀ t admitted i = length letters - i
 
 -- at the head of the loop
 module _ (c : tie.At-loop Inv-loop μ-loop) where
   abbrev start : tie.Start Inv-loop μ-loop
-  start = c .before .before .before .before
+  start = c .before .before .before .before .before
 
   abbrev plan : Plan
-  plan = start .args .p
+  plan = planOver (start .args .frame) (start .args .stages .now)
 
   abbrev letters : List ℕ
   letters = start .args .letters .now
@@ -96,13 +98,13 @@ shared-slice-read-step : tie.Need-shared-slice-read-step Inv-loop μ-loop
 shared-slice-read-step c = search needs
 
 mul-step : tie.Need-mul-step Inv-loop μ-loop
-mul-step c = let e = c .before in omega (arith, start (turn e) .good .1 .1 .1 .0 .1, jobs-left e)
+mul-step c = let e = c .before in omega (arith, start (turn e) .good .1 .1 .1 .1 .0 .1, jobs-left e)
 
 shared-slice-read-step-2 : tie.Need-shared-slice-read-step-2 Inv-loop μ-loop
 shared-slice-read-step-2 c = search needs
 
 mul-step-2 : tie.Need-mul-step-2 Inv-loop μ-loop
-mul-step-2 c = let e = c .before .before in omega (arith, start (turn e) .good .1 .1 .1 .1 .0 .1, kinds-left e)
+mul-step-2 c = let e = c .before .before in omega (arith, start (turn e) .good .1 .1 .1 .1 .1 .0 .1, kinds-left e)
 
 shared-slice-read-step-3 : tie.Need-shared-slice-read-step-3 Inv-loop μ-loop
 shared-slice-read-step-3 c = search needs

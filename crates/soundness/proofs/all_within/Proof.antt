@@ -23,8 +23,8 @@ loop-holds c = (search needs, refl)
 element-copy-out-if1 : tie.Need-element-copy-out-if1 Inv-loop μ-loop
 element-copy-out-if1 c = search needs
 
-element-copy-out-if1-2 : tie.Need-element-copy-out-if1-2 Inv-loop μ-loop
-element-copy-out-if1-2 c = search needs
+shared-slice-read-if1 : tie.Need-shared-slice-read-if1 Inv-loop μ-loop
+shared-slice-read-if1 c = search needs
 
 add-i : tie.Need-add-i Inv-loop μ-loop
 add-i c = search needs
@@ -46,4 +46,4 @@ returns c =
 pub all-within-spec : {M : Type 1} → statement M
 all-within-spec =
     tie.close
-    (tie.spec Inv-loop μ-loop loop-holds element-copy-out-if1 element-copy-out-if1-2 add-i loop-less loop-again returns)
+    (tie.spec Inv-loop μ-loop loop-holds element-copy-out-if1 shared-slice-read-if1 add-i loop-less loop-again returns)

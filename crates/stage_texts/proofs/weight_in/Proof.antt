@@ -1,31 +1,67 @@
--- Row w stands at position w - 1, and there is 0 before the first and beyond the last.
-use mathlib.Core.Path.{_≡_, refl, sym}
+-- What a stage weighs in row w stands behind its 32 demands, at position w - 1.
+use Prim.Native.Nat.{_+_, _-_, _*_}
 use native.Mathlib.Omega.{arith}
-use lib.ListN.{length}
-use Rattle.parts.proofs.FixedWidth.{at-position, at-beyond}
+use mathlib.Core.Path.{sym, ap, _∙_}
+use Rattle.model.specs.Numbers.{at}
+use Rattle.model.specs.Plan.{noStage}
+use Rattle.model.proofs.Lists.{zeros-at}
+use Rattle.model.specs.declared.Stage.{Stage}
+use Rattle.plan_bytes.proofs.StageBytes.{weight-byte, weight-beyond, stage-beyond}
 use borrow.Author.Needs.{needs}
+use Rattle.stage_texts.specs.StageRecords.{stageAt}
 use Rattle.stage_texts.proofs.weight_in.Statement.{statement}
 use Rattle.stage_texts.proofs.weight_in.Tie as tie
 
 returns : tie.Need-returns
-returns c = let none : c .before .args .row ≡ 0 = omega arith in rw none refl
+unfolding stageAt
+returns c =
+    let a = c .before .args in
+    sym (ap (λ (s : Stage). at (s .weight) (a .row)) (stage-beyond (a .stages .now) (a .index) noStage (omega arith)) ∙ zeros-at 32 (a .row))
 
 returns-2 : tie.Need-returns-2
+unfolding stageAt
 returns-2 c =
     let a = c .before .before .args in
-    let all : length (a .t1 .weight) ≡ 32 = search needs in
-    sym (at-beyond (a .t1 .weight) (a .row) (omega arith))
+    sym (weight-beyond (a .stages .now) (a .index) noStage (a .row) (omega arith) (omega arith))
+
+sub-w : tie.Need-sub-w
+sub-w c = search needs
 
 cast-w : tie.Need-cast-w
 cast-w c = search needs
 
-element-copy-out-result : tie.Need-element-copy-out-result
-element-copy-out-result c = search needs
+mul-result : tie.Need-mul-result
+mul-result c = search needs
+
+add-result : tie.Need-add-result
+add-result c = search needs
+
+add-result-2 : tie.Need-add-result-2
+add-result-2 c = search needs
+
+shared-slice-read-result : tie.Need-shared-slice-read-result
+shared-slice-read-result c = search needs
+
+cast-result : tie.Need-cast-result
+cast-result c = let a = c .before .before .before .args in omega (arith, c .shared-slice-known .given (a .index * 64 + 32 + (a .row - 1)))
 
 returns-3 : tie.Need-returns-3
+unfolding stageAt
 returns-3 c =
     let a = c .before .before .before .args in
-    sym (at-position (a .t1 .weight) (a .row) (omega arith))
+    sym (weight-byte (a .stages .now) (a .index) noStage (a .row) (omega arith) (omega arith))
 
 pub weight-in-spec : {M : Type 1} → statement M
-weight-in-spec = tie.close (tie.spec returns returns-2 cast-w element-copy-out-result returns-3)
+weight-in-spec =
+    tie.close
+    (tie.spec
+    returns
+    returns-2
+    sub-w
+    cast-w
+    mul-result
+    add-result
+    add-result-2
+    shared-slice-read-result
+    cast-result
+    returns-3)

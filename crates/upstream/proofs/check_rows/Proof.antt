@@ -7,6 +7,7 @@ use Rattle.model.specs.Numbers.{inRange, lowest}
 use Rattle.model.specs.Plan.{boundOf, capacityOf, allStages}
 use Rattle.model.specs.Upstream.{faultyRow, faultyBound}
 use Rattle.model.specs.declared.Plan.{Plan}
+use Rattle.plan_bytes.specs.Over.{planRead, planOver}
 use Rattle.upstream.specs.Parts.{LowestRanks, Closed}
 use Rattle.upstream.proofs.TypeEnds.{ranks-closed}
 use Rattle.upstream.proofs.check_rows.Statement.{statement}
@@ -16,15 +17,16 @@ u8-to-usize-requires : tie.Need-u8-to-usize-requires
 u8-to-usize-requires c κs = tt
 
 closed-requires : tie.Need-closed-requires
-unfolding allStages
+unfolding allStages planOver planRead
 closed-requires c κs =
-    let sound = c .before .before .before .pre .0 in
+    let sound = c .before .before .before .before .pre .0 in
     rw (c .u8-to-usize .ensures .0) (record { few = sound .types .1; some = λ t h. sound .lengths t h .0; total = sound .total })
 
 faulty-row-requires : tie.Need-faulty-row-requires
+unfolding planOver planRead
 faulty-row-requires c κs =
-    let start = c .before .before .before .before in
-    let p = start .args .t1 in
+    let start = c .before .before .before .before .before in
+    let p = planOver (start .args .t1) (start .args .stages .now) in
     let lowest = subst (λ (n : ℕ). LowestRanks p n (start .args .lowest)) (start .pre .1) (start .pre .2) in
     let ranks =
     subst (λ (n : ℕ). Closed (p .lengths) n (start .args .lowest) (c .closed .result)) (c .before .u8-to-usize .ensures .0) (c .closed .ensures) in
@@ -35,9 +37,10 @@ u8-to-usize-requires-2 c κs = tt
 
 -- where the first search has ended
 abbrev start : tie.After-faulty-row → tie.Start
-start c = c .before .before .before .before .before
+start c = c .before .before .before .before .before .before
 
 faulty-bound-requires : tie.Need-faulty-bound-requires
+unfolding planOver planRead
 faulty-bound-requires c κs = omega (arith, c .u8-to-usize2 .ensures .0, start (c .before .before .before .before) .pre .0 .rows)
 
 -- what the two searches found
@@ -46,7 +49,7 @@ module _ (c : tie.After-faulty-bound) where
   searched = c .before .before .before .before .before
 
   abbrev plan : Plan
-  plan = start searched .args .t1
+  plan = planOver (start searched .args .t1) (start searched .args .stages .now)
 
   abbrev row : ℕ
   row = searched .faulty-row .result
@@ -55,7 +58,7 @@ module _ (c : tie.After-faulty-bound) where
   row-is = sym (searched .faulty-row .ensures)
 
   bound-is : faultyBound plan ≡ c .faulty-bound .result
-  unfolding faultyBound
+  unfolding faultyBound planOver planRead
   bound-is =
       let search-of : ℕ → ℕ = λ n. lowest n (λ (r : ℕ). inRange (boundOf plan r) (capacityOf plan r)) in
       sym (c .faulty-bound .ensures ∙ ap search-of (c .before .u8-to-usize2 .ensures .0))

@@ -11,6 +11,7 @@ use borrow.Author.Tests.{eq-eqb, ne-eqb}
 use Rattle.model.specs.Plan.{allStages}
 use Rattle.model.specs.Upstream.{faultyStage, faultyType}
 use Rattle.model.specs.declared.Plan.{Plan}
+use Rattle.plan_bytes.specs.Over.{planRead, planOver}
 use Rattle.upstream.specs.Parts.{Stands, FirstOther}
 use Rattle.upstream.specs.declared.position.Position.{Position}
 use Rattle.upstream.specs.declared.units.Units.{Units}
@@ -21,10 +22,10 @@ use Rattle.upstream.proofs.check_stages.Tie as tie
 -- where the position of the first other entry is known
 module _ (c : tie.After-struct-known) where
   abbrev start : tie.Start
-  start = c .before .before .before .before .before .before
+  start = c .before .before .before .before .before .before .before
 
   abbrev plan : Plan
-  plan = start .args .t1
+  plan = planOver (start .args .t1) (start .args .stages .now)
 
   abbrev units : Units
   units = c .before .before .before .before .before .units-of .result
@@ -39,6 +40,7 @@ module _ (c : tie.After-struct-known) where
   position = c .before .position-of .result
 
   stands : Stands (plan .lengths) (plan .types) index position
+  unfolding planOver planRead
   stands =
       subst (λ (n : ℕ). Stands (plan .lengths) n index position) (c .before .before .before .before .u8-to-usize .ensures .0)
       (c .before .position-of .ensures)
@@ -56,16 +58,18 @@ module _ (c : tie.After-struct-known) where
     ends = at-end plan (start .pre) index first position stands past
 
 types-are : (c : tie.Else1) → plan (c .before) .types ≤ position (c .before) .kind
+unfolding planOver planRead
 types-are c = omega (arith, c .if1 .left, c .before .before .before .before .before .u8-to-usize .ensures .0)
 
 units-of-requires : tie.Need-units-of-requires
-units-of-requires c κs = tt
+units-of-requires c κs = c .before .pre
 
 u8-to-usize-requires : tie.Need-u8-to-usize-requires
 u8-to-usize-requires c κs = tt
 
 position-of-requires : tie.Need-position-of-requires
-position-of-requires c κs = omega (arith, c .before .before .u8-to-usize .ensures .0, c .before .before .before .before .pre .types)
+unfolding planOver planRead
+position-of-requires c κs = omega (arith, c .before .before .u8-to-usize .ensures .0, c .before .before .before .before .before .pre .types)
 
 add-kind : tie.Need-add-kind
 add-kind c = search needs
@@ -80,12 +84,14 @@ cast-stage : tie.Need-cast-stage
 cast-stage c = search needs
 
 returns : tie.Need-returns
+unfolding planOver planRead
 returns c =
     let h = c .before .before .before in
     let f = fault h (omega (arith, c .before .before .if1 .taken, h .before .before .before .before .u8-to-usize .ensures .0)) in
     rw (f .0, ne-eqb (position h .kind + 1) 0 (λ e. omega arith), f .1) refl
 
 returns-2 : tie.Need-returns-2
+unfolding planOver planRead
 returns-2 c = rw (units-met (c .before .before) (types-are (c .before)), ne-eqb _ _ (c .if2 .taken)) refl
 
 check-rows-requires : tie.Need-check-rows-requires
@@ -94,6 +100,7 @@ check-rows-requires c κs =
     (start h .pre, ends h (types-are (c .before .before)), h .before .before .before .before .before .units-of .ensures .1)
 
 returns-3 : tie.Need-returns-3
+unfolding planOver planRead
 returns-3 c =
     let h = c .before .before in
     rw (units-met (h .before .before) (types-are (h .before)), eq-eqb _ _ (h .if2 .left)) (c .check-rows .ensures)

@@ -7,16 +7,21 @@ use Rattle.model.specs.Soundness.{Sound, sound}
 use Rattle.model.specs.Upstream.{check}
 use Rattle.model.proofs.Decide.{holds}
 use Rattle.model.proofs.Soundness.{decides-sound}
+use Rattle.model.specs.declared.Plan.{Plan}
+use Rattle.plan_bytes.specs.Over.{planRead, planOver}
 use Rattle.upstream.proofs.Stages.{first-rank}
 use Rattle.upstream.proofs.upstream_check.Statement.{statement}
 use Rattle.upstream.proofs.upstream_check.Tie as tie
 
 module _ (c : tie.Else1) where
-  sound-met : sound (c .before .before .args .t1) ≡ true
+  abbrev plan : Plan
+  plan = planOver (c .before .before .before .args .t1) (c .before .before .before .args .stages .now)
+
+  sound-met : sound plan ≡ true
   sound-met = sym (c .before .is-sound .ensures) ∙ not-false _ (c .if1 .left)
 
-  is-sound : Sound (c .before .before .args .t1)
-  is-sound = holds (decides-sound (c .before .before .args .t1)) sound-met
+  is-sound : Sound plan
+  is-sound = holds (decides-sound plan) sound-met
 
 is-sound-requires : tie.Need-is-sound-requires
 is-sound-requires c κs = tt
@@ -29,7 +34,7 @@ element-copy-out-if2 : tie.Need-element-copy-out-if2
 element-copy-out-if2 c = search needs
 
 returns-2 : tie.Need-returns-2
-unfolding check
+unfolding check planOver planRead
 returns-2 c =
     let h = c .before .before in
     rw (sound-met h, first-rank _ (is-sound h), lt-leb 1 _ (c .if2 .taken)) refl
@@ -38,7 +43,7 @@ check-stages-requires : tie.Need-check-stages-requires
 check-stages-requires c κs = is-sound (c .before .before)
 
 returns-3 : tie.Need-returns-3
-unfolding check
+unfolding check planOver planRead
 returns-3 c =
     let h = c .before .before .before in
     rw (sound-met h, first-rank _ (is-sound h), le-leb 1 _ (c .before .if2 .left)) (c .check-stages .ensures)

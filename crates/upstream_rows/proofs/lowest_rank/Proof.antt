@@ -1,5 +1,5 @@
 -- The lowest so far is that of the demands passed; at the end all demands are passed, as proofs/Beyond says.
-use Prim.Native.Nat.{_-_, _≤_}
+use Prim.Native.Nat.{_-_, _≤_, min}
 use native.Mathlib.Omega.{arith}
 use native.Mathlib.Numerals.{add-one}
 use mathlib.Core.Path.{_≡_, refl}
@@ -11,22 +11,28 @@ use Rattle.upstream_rows.proofs.lowest_rank.Statement.{statement}
 use Rattle.upstream_rows.proofs.lowest_rank.Tie as tie
 
 abbrev Inv-loop : tie.InvT-loop
-Inv-loop rank resources s n lowest₀ i₀ lowest i = (lowest ≡ lowestRank i (s .demand) rank) × (i ≤ n)
+Inv-loop demand rank resources n lowest₀ i₀ lowest i = (lowest ≡ lowestRank i demand rank) × (i ≤ n)
 
 abbrev μ-loop : tie.MeasureT-loop
-μ-loop rank resources s n lowest₀ i₀ lowest i = n - i
+μ-loop demand rank resources n lowest₀ i₀ lowest i = n - i
 
-with-entries-requires : tie.Need-with-entries-requires Inv-loop μ-loop
-with-entries-requires c κs = tt
+u8-to-usize-requires : tie.Need-u8-to-usize-requires Inv-loop μ-loop
+u8-to-usize-requires c κs = tt
+
+fewer-requires : tie.Need-fewer-requires Inv-loop μ-loop
+fewer-requires c κs = tt
+
+fewer-requires-2 : tie.Need-fewer-requires-2 Inv-loop μ-loop
+fewer-requires-2 c κs = tt
 
 loop-holds : tie.Need-loop-holds Inv-loop μ-loop
 loop-holds c = search needs
 
+shared-slice-read-rank-if : tie.Need-shared-slice-read-rank-if Inv-loop μ-loop
+shared-slice-read-rank-if c = search needs
+
 element-copy-out-rank-if : tie.Need-element-copy-out-rank-if Inv-loop μ-loop
 element-copy-out-rank-if c = search needs
-
-element-copy-out-rank-if-2 : tie.Need-element-copy-out-rank-if-2 Inv-loop μ-loop
-element-copy-out-rank-if-2 c = search needs
 
 rank-if-requires : tie.Need-rank-if-requires Inv-loop μ-loop
 rank-if-requires c κs = tt
@@ -47,11 +53,10 @@ loop-again c =
 
 returns : tie.Need-returns Inv-loop μ-loop
 returns c =
-    let start = c .before .before .before in
-    let entries = c .before .before .with-entries in
-    let long : length (start .args .t1 .demand) ≡ 32 = search needs in
-    let all : c .before .loop .i ≡ entries .result = omega arith in
-    rw (ranks-seen _ long (entries .result) (start .args .resources) (entries .ensures), ← all) (c .before .loop .inv .0)
+    let a = c .before .before .before .before .before .before .args in
+    let demand = a .demand .now in
+    let all : c .before .loop .i ≡ min (min (a .resources) 32) (length demand) = omega arith in
+    rw (ranks-seen demand (a .rank .now) (min (a .resources) 32), ← all) (c .before .loop .inv .0)
 
 pub lowest-rank-spec : {M : Type 1} → statement M
 lowest-rank-spec =
@@ -59,10 +64,12 @@ lowest-rank-spec =
     (tie.spec
     Inv-loop
     μ-loop
-    with-entries-requires
+    u8-to-usize-requires
+    fewer-requires
+    fewer-requires-2
     loop-holds
+    shared-slice-read-rank-if
     element-copy-out-rank-if
-    element-copy-out-rank-if-2
     rank-if-requires
     lower-requires
     add-i

@@ -1,5 +1,5 @@
 -- The sum so far is that of the units passed, and small; at the end all units are passed, as proofs/Beyond says.
-use Prim.Native.Nat.{_*_, _-_, _≤_}
+use Prim.Native.Nat.{_*_, _-_, _≤_, min}
 use native.Mathlib.Omega.{arith}
 use native.Mathlib.Numerals.{add-one}
 use mathlib.Core.Path.{_≡_, refl}
@@ -11,19 +11,22 @@ use Rattle.upstream_rows.proofs.one_unit.Statement.{statement}
 use Rattle.upstream_rows.proofs.one_unit.Tie as tie
 
 abbrev Inv-loop : tie.InvT-loop
-Inv-loop resources s n sum₀ i₀ sum i = (sum ≡ sumTo i (at (s .demand))) × (sum ≤ 255 * i) × (i ≤ n)
+Inv-loop demand resources n sum₀ i₀ sum i = (sum ≡ sumTo i (at demand)) × (sum ≤ 255 * i) × (i ≤ n)
 
 abbrev μ-loop : tie.MeasureT-loop
-μ-loop resources s n sum₀ i₀ sum i = n - i
+μ-loop demand resources n sum₀ i₀ sum i = n - i
 
-with-entries-requires : tie.Need-with-entries-requires Inv-loop μ-loop
-with-entries-requires c κs = tt
+u8-to-usize-requires : tie.Need-u8-to-usize-requires Inv-loop μ-loop
+u8-to-usize-requires c κs = tt
+
+fewer-requires : tie.Need-fewer-requires Inv-loop μ-loop
+fewer-requires c κs = tt
 
 loop-holds : tie.Need-loop-holds Inv-loop μ-loop
 loop-holds c = search needs
 
-element-copy-out-u8-to-u16 : tie.Need-element-copy-out-u8-to-u16 Inv-loop μ-loop
-element-copy-out-u8-to-u16 c = search needs
+shared-slice-read-u8-to-u16 : tie.Need-shared-slice-read-u8-to-u16 Inv-loop μ-loop
+shared-slice-read-u8-to-u16 c = search needs
 
 u8-to-u16-requires : tie.Need-u8-to-u16-requires Inv-loop μ-loop
 u8-to-u16-requires c κs = tt
@@ -44,11 +47,10 @@ loop-again c =
 
 returns : tie.Need-returns Inv-loop μ-loop
 returns c =
-    let start = c .before .before .before in
-    let entries = c .before .before .with-entries in
-    let long : length (start .args .t1 .demand) ≡ 32 = search needs in
-    let all : c .before .loop .i ≡ entries .result = omega arith in
-    rw (units-seen _ long (entries .result) (start .args .resources) (entries .ensures), ← all, ← c .before .loop .inv .0) refl
+    let a = c .before .before .before .before .before .args in
+    let demand = a .demand .now in
+    let all : c .before .loop .i ≡ min (a .resources) (length demand) = omega arith in
+    rw (units-seen demand (a .resources), ← all, ← c .before .loop .inv .0) refl
 
 pub one-unit-spec : {M : Type 1} → statement M
 one-unit-spec =
@@ -56,9 +58,10 @@ one-unit-spec =
     (tie.spec
     Inv-loop
     μ-loop
-    with-entries-requires
+    u8-to-usize-requires
+    fewer-requires
     loop-holds
-    element-copy-out-u8-to-u16
+    shared-slice-read-u8-to-u16
     u8-to-u16-requires
     add-sum
     add-i

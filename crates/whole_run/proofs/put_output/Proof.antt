@@ -8,6 +8,8 @@ use lib.ListN.{length, length-drop}
 use borrow.Author.Needs.{needs}
 use Rattle.events.specs.JobList.{emptyList}
 use Rattle.plan_text.specs.Reading.{reading}
+use Rattle.plan_text.specs.Framed.{readingFrom}
+use Rattle.plan_text.specs.declared.Reading.{Reading}
 use Rattle.moves_text.specs.Division.{planLength, planPart, eventPart}
 use Rattle.moves_text.specs.OutputLines.{aboutPlan, aboutText}
 use Rattle.moves_text.specs.Output.{toPrint}
@@ -36,17 +38,21 @@ module _ (c : tie.After-read) where
   plan-told : now (lent .part-of .result) ≡ planPart input
   plan-told = plan-lent input (now (lent .part-of .result)) (ended .plan-length .result) (ended .plan-length .ensures) (lent .part-of .ensures .bytes)
 
-  read-told : c .read .result ≡ reading (planPart input)
+  -- as a reading
+  abbrev taken : Reading
+  taken = readingFrom (c .read .result)
+
+  read-told : taken ≡ reading (planPart input)
   read-told = c .read .ensures ∙ ap reading plan-told
 
 -- where the lines about it are put
 module _ (c : tie.After-put-about) where
   abbrev done : tie.After-read
-  done = c .before .before .before .before
+  done = c .before .before .before .before .before .before
 
-  about-told : aboutText (c .before .before .text-number .result) (done .read .result .line) (done .read .result .plan) ≡ aboutPlan (reading (planPart (input done)))
+  about-told : aboutText (c .before .before .before .text-number .result) (taken done .line) (taken done .plan) ≡ aboutPlan (reading (planPart (input done)))
   about-told =
-      ap (λ n. aboutText n (done .read .result .line) (done .read .result .plan)) (c .before .before .text-number .ensures) ∙ ap aboutPlan (read-told done)
+      ap (λ n. aboutText n (taken done .line) (taken done .plan)) (c .before .before .before .text-number .ensures) ∙ ap aboutPlan (read-told done)
 
   about-few : c .put-about .result ≤ 21
   about-few = omega (arith, c .put-about .ensures .0, ap length about-told, about-short (planPart (input done)))
@@ -87,17 +93,24 @@ read-requires c κs = search needs
 text-number-requires : tie.Need-text-number-requires
 text-number-requires c κs = search needs
 
+slice-aggregate-put-about : tie.Need-slice-aggregate-put-about
+slice-aggregate-put-about c = search needs
+
 put-about-requires : tie.Need-put-about-requires
 put-about-requires c κs = search needs
 
 part-of-requires-2 : tie.Need-part-of-requires-2
 part-of-requires-2 c κs = search needs
 
+slice-aggregate-put-replies : tie.Need-slice-aggregate-put-replies
+slice-aggregate-put-replies c = search needs
+
 put-replies-requires : tie.Need-put-replies-requires
 put-replies-requires c κs =
-    let about = c .before .before .before .before in
+    let lines = c .before .before in
+    let about = lines .before .before .before in
     let r = done about in
-    let e = events-told (c .before) in
+    let e = events-told lines in
     (omega (arith, ap length e, length-drop (planLength (input r) + 2) (input r), short r), omega (arith, about-few about))
 
 same-length-2 : tie.Need-same-length-2
@@ -106,14 +119,14 @@ same-length-2 c = search needs
 returns-2 : tie.Need-returns-2
 returns-2 c =
     let put = c .before .before in
-    let lines = put .before .before in
+    let lines = put .before .before .before in
     let about = lines .before .before .before in
     let k = done about in
     let a = ended k .before .before .before .before .args in
-    whole-laid (aboutText (about .before .before .text-number .result) (k .read .result .line) (k .read .result .plan))
-    (toPrint (k .read .result .plan) emptyList 1 (now (lines .part-of2 .result))) (now (a .space))
-    (ap (λ out. out ++ toPrint (k .read .result .plan) emptyList 1 (now (lines .part-of2 .result))) (about-told about ∙ ap aboutPlan (sym (read-told k)))
-    ∙ whole-output (input k) (short k) (k .read .result) (read-told k) (now (lines .part-of2 .result)) (events-told lines))
+    whole-laid (aboutText (about .before .before .before .text-number .result) (taken k .line) (taken k .plan))
+    (toPrint (taken k .plan) emptyList 1 (now (lines .part-of2 .result))) (now (a .space))
+    (ap (λ out. out ++ toPrint (taken k .plan) emptyList 1 (now (lines .part-of2 .result))) (about-told about ∙ ap aboutPlan (sym (read-told k)))
+    ∙ whole-output (input k) (short k) (taken k) (read-told k) (now (lines .part-of2 .result)) (events-told lines))
     (about .put-about .ensures) (put .put-replies .ensures)
 
 pub put-output-spec : {M : Type 1} → statement M
@@ -128,8 +141,10 @@ put-output-spec =
     part-of-requires
     read-requires
     text-number-requires
+    slice-aggregate-put-about
     put-about-requires
     part-of-requires-2
+    slice-aggregate-put-replies
     put-replies-requires
     same-length-2
     returns-2)

@@ -9,12 +9,14 @@ use lib.Dec.{ltb}
 use lib.ListN.{length, take, drop}
 use borrow.Author.Needs.{needs}
 use Rattle.bytes.specs.Bytes.{slice, indexOf}
+use Rattle.model.specs.declared.Plan.{Plan}
 use Rattle.events.specs.Events.{answer, listAfter, answerNumbers}
 use Rattle.events.specs.declared.JobList.{JobList}
 use Rattle.events.specs.declared.Event.{Event}
 use Rattle.admission.specs.declared.Table.{Table}
 use Rattle.admission.specs.declared.Outcome.{Outcome}
 use Rattle.admission.specs.Table.{outcome}
+use Rattle.plan_bytes.specs.Over.{planOver}
 use Rattle.plan_text.specs.Lines.{Line, lineEnd, linesOf}
 use Rattle.plan_text.proofs.LineReading.{end-found, end-bounds}
 use Rattle.moves_text.specs.EventLines.{eventIn, counted}
@@ -30,24 +32,27 @@ use Rattle.whole_run.proofs.put_replies.Statement.{statement}
 use Rattle.whole_run.proofs.put_replies.Tie as tie
 
 abbrev Inv-loop : tie.InvT-loop
-Inv-loop events plan space₀ start table₀ ordinal₀ put₀ at₀ space table ordinal put at =
-    Going plan events space₀ start (table .list) ordinal put at space
+Inv-loop events frame stages space₀ start table₀ ordinal₀ put₀ at₀ space table ordinal put at =
+    Going (planOver frame stages) events space₀ start (table .list) ordinal put at space
 
 abbrev μ-loop : tie.MeasureT-loop
-μ-loop events plan space₀ start table₀ ordinal₀ put₀ at₀ space table ordinal put at = length events - at
+μ-loop events frame stages space₀ start table₀ ordinal₀ put₀ at₀ space table ordinal put at = length events - at
 
 -- at the head of the loop
 module _ (c : tie.At-loop Inv-loop μ-loop) where
   abbrev begun : tie.Start Inv-loop μ-loop
-  begun = c .before .before .before .before
+  begun = c .before .before .before .before .before
 
   abbrev events : List ℕ
   events = now (begun .args .events)
 
+  abbrev plan : Plan
+  plan = planOver (begun .args .frame) (now (begun .args .stages))
+
   abbrev table : JobList
   table = c .loop .table .list
 
-  going : Going (begun .args .plan) events (now (begun .args .space)) (begun .args .start) table (c .loop .ordinal) (c .loop .put) (c .loop .at) (c .loop .space)
+  going : Going plan events (now (begun .args .space)) (begun .args .start) table (c .loop .ordinal) (c .loop .put) (c .loop .at) (c .loop .space)
   going = c .loop .inv
 
   -- what is put ends far below the largest number
@@ -90,20 +95,20 @@ module _ (c : tie.After-event-of Inv-loop μ-loop) where
   abbrev Next : JobList → ℕ → List ℕ → Type 0
   Next u k space =
       let a = begun turn .args in
-      (k ≤ 15) × Going (a .plan) (events turn) (now (a .space)) (a .start) u (turn .loop .ordinal + 1) (turn .loop .put + k) (end + 1) space
+      (k ≤ 15) × Going (plan turn) (events turn) (now (a .space)) (a .start) u (turn .loop .ordinal + 1) (turn .loop .put + k) (end + 1) space
 
   goes : (l : EventLine) (e : Option Event) → c .event-of .result ≡ l → ((ls : List EventLine) → counted (l ∷ ls) ≡ e ∷ counted ls)
-      → (u : JobList) → u ≡ listAfterLine (begun turn .args .plan) (table turn) e
-      → (line : List ℕ) → (let r = replyTo (begun turn .args .plan) (table turn) e in line ≡ eventLine (turn .loop .ordinal) (r .number) (r .place) (r .active))
+      → (u : JobList) → u ≡ listAfterLine (plan turn) (table turn) e
+      → (line : List ℕ) → (let r = replyTo (plan turn) (table turn) e in line ≡ eventLine (turn .loop .ordinal) (r .number) (r .place) (r .active))
       → (k : ℕ) (space : List ℕ) → (k ≡ length line) × (space ≡ overlaidAt (turn .loop .put) line (turn .loop .space)) → Next u k space
   goes l e is-line counts u after line same k space laid =
       let t = turn in
       let a = begun t .args in
       let lent = now (a .space) in
-      let left = counted-left (a .plan) (events t) lent (a .start) (table t) (t .loop .ordinal) (t .loop .put) (t .loop .at) (t .loop .space) (going t) end there found l (heard l is-line) ∙ counts (map eventIn (linesOf (drop (end + 1) (events t)))) in
-      let short = here-short (a .plan) (events t) lent (a .start) (table t) (t .loop .ordinal) (t .loop .put) (t .loop .at) (t .loop .space) (going t) end there found e left (far t .1) in (
+      let left = counted-left (plan t) (events t) lent (a .start) (table t) (t .loop .ordinal) (t .loop .put) (t .loop .at) (t .loop .space) (going t) end there found l (heard l is-line) ∙ counts (map eventIn (linesOf (drop (end + 1) (events t)))) in
+      let short = here-short (plan t) (events t) lent (a .start) (table t) (t .loop .ordinal) (t .loop .put) (t .loop .at) (t .loop .space) (going t) end there found e left (far t .1) in (
         omega (arith, laid .0, ap length same, short),
-        goes-on (a .plan) (events t) lent (a .start) (table t) (t .loop .ordinal) (t .loop .put) (t .loop .at) (t .loop .space) (going t) end there found e left (far t .1) u after line same k space laid,
+        goes-on (plan t) (events t) lent (a .start) (table t) (t .loop .ordinal) (t .loop .put) (t .loop .at) (t .loop .space) (going t) end there found e left (far t .1) u after line same k space laid,
       )
 
 -- where a malformed line is answered
@@ -124,10 +129,10 @@ module _ (c : tie.After-handle Inv-loop μ-loop) where
   abbrev event : Event
   event = c .before .before .line .given .0 .0
 
-  outcome-told : c .handle .result ≡ outcome (begun (turn read) .args .plan) (turn read .loop .table) event
+  outcome-told : c .handle .result ≡ outcome (plan (turn read)) (turn read .loop .table) event
   outcome-told = c .handle .ensures
 
-  after-told : c .handle .result .table .list ≡ listAfter (begun (turn read) .args .plan) (table (turn read)) event
+  after-told : c .handle .result .table .list ≡ listAfter (plan (turn read)) (table (turn read)) event
   after-told = ap (λ (o : Outcome). o .table .list) outcome-told
 
 module _ (c : tie.After-put-event-line2 Inv-loop μ-loop) where
@@ -137,10 +142,10 @@ module _ (c : tie.After-put-event-line2 Inv-loop μ-loop) where
   abbrev t : tie.At-loop Inv-loop μ-loop
   t = turn (read answering)
 
-  number-told : c .before .before .before .answer-number .result ≡ answerNumbers (answer (begun t .args .plan) (table t) (event answering)) .0
+  number-told : c .before .before .before .answer-number .result ≡ answerNumbers (answer (plan t) (table t) (event answering)) .0
   number-told = c .before .before .before .answer-number .ensures ∙ ap (λ (o : Outcome). answerNumbers (o .answer) .0) (outcome-told answering)
 
-  place-told : c .before .before .answer-place .result ≡ answerNumbers (answer (begun t .args .plan) (table t) (event answering)) .1
+  place-told : c .before .before .answer-place .result ≡ answerNumbers (answer (plan t) (table t) (event answering)) .1
   place-told = c .before .before .answer-place .ensures ∙ ap (λ (o : Outcome). answerNumbers (o .answer) .1) (outcome-told answering)
 
   answered : Next (read answering) (answering .handle .result .table .list) (c .put-event-line2 .result) (c .put-event-line2 .last .1 .1 .1 .1 .0)
@@ -155,8 +160,8 @@ empty-requires c κs = search needs
 
 loop-holds : tie.Need-loop-holds Inv-loop μ-loop
 loop-holds c =
-    let a = c .before .before .before .args in
-    rw (ap (λ (t : Table). t .list) (c .empty .ensures)) (going-start (a .plan) (now (a .events)) (now (a .space)) (a .start))
+    let a = c .before .before .before .before .args in
+    rw (ap (λ (t : Table). t .list) (c .empty .ensures)) (going-start (planOver (a .frame) (now (a .stages))) (now (a .events)) (now (a .space)) (a .start))
 
 line-end-requires : tie.Need-line-end-requires Inv-loop μ-loop
 line-end-requires c κs = search needs
@@ -188,7 +193,7 @@ loop-again c =
     let t = turn d in
     let a = begun t .args in
     let g = going t in
-    goes-past (a .plan) (events t) (now (a .space)) (a .start) (table t) (t .loop .ordinal) (t .loop .put) (t .loop .at) (t .loop .space) g (end d) (there d)
+    goes-past (plan t) (events t) (now (a .space)) (a .start) (table t) (t .loop .ordinal) (t .loop .put) (t .loop .at) (t .loop .space) g (end d) (there d)
     (found d) (heard d Skipped (c .enum-told .given .1))
 
 enum-told-2 : tie.Need-enum-told-2 Inv-loop μ-loop
@@ -222,7 +227,7 @@ cast-active-2 : tie.Need-cast-active-2 Inv-loop μ-loop
 cast-active-2 c =
     let m = c .before .before in
     let k = turn (read m) in
-    omega (arith, ap (λ (l : JobList). l .count) (after-told m), active-few (begun k .args .plan) (table k) (event m) (going k .few))
+    omega (arith, ap (λ (l : JobList). l .count) (after-told m), active-few (plan k) (table k) (event m) (going k .few))
 
 answer-number-requires : tie.Need-answer-number-requires Inv-loop μ-loop
 answer-number-requires c κs = search needs
@@ -237,7 +242,12 @@ add-put-2 : tie.Need-add-put-2 Inv-loop μ-loop
 add-put-2 c = let m = c .before .before in omega (arith, answered m .0, far (t m) .0)
 
 add-ordinal-2 : tie.Need-add-ordinal-2 Inv-loop μ-loop
-add-ordinal-2 c = search needs
+add-ordinal-2 c =
+    let k = t (c .before .before) in
+    let ordinals = going k .ordinals in
+    let within = going k .within in
+    let short = far k .1 in
+    search needs
 
 loop-less-3 : tie.Need-loop-less-3 Inv-loop μ-loop
 loop-less-3 c = let d = read (answering (c .before .before)) in omega (arith, line-within (d .before .before))
@@ -255,7 +265,7 @@ returns : tie.Need-returns Inv-loop μ-loop
 returns c =
     let t = c .before in
     let a = begun t .args in
-    all-printed (a .plan) (events t) (now (a .space)) (a .start) (table t) (t .loop .ordinal) (t .loop .put) (t .loop .at) (t .loop .space) (going t)
+    all-printed (plan t) (events t) (now (a .space)) (a .start) (table t) (t .loop .ordinal) (t .loop .put) (t .loop .at) (t .loop .space) (going t)
     (c .loop-test .left)
 
 pub put-replies-spec : {M : Type 1} → statement M

@@ -2,9 +2,11 @@
 use Prim.Native.Nat.{_+_, _≤_}
 use native.Mathlib.Nat.{zero-add}
 use native.Mathlib.Omega.{arith}
-use mathlib.Core.List.{append-nil}
+use mathlib.Core.List.{[], append-nil}
 use mathlib.Core.Path.{sym, ap, _∙_}
 use denote.Ref.{now}
+use Rattle.model.specs.declared.Plan.{Plan}
+use Rattle.plan_bytes.specs.Over.{planRead}
 use Rattle.plan_text.specs.Meaning.{C}
 use Rattle.moves_text.proofs.Overlays.{none-put}
 use Rattle.plan_spelling.specs.Spelling.{entryRecords, recordText, textOf}
@@ -15,6 +17,9 @@ use Rattle.writer.proofs.put_lists.Statement.{statement}
 use Rattle.writer.proofs.put_lists.Tie as tie
 
 module _ (s : tie.Start) where
+  abbrev lists : Plan
+  lists = planRead (s .args .t1) []
+
   few-counts : (s .args .t1 .resources ≤ 255) × (s .args .t1 .types ≤ 255)
   few-counts = search needs
 
@@ -23,22 +28,24 @@ module _ (c : tie.After-put-record) where
   abbrev begun : tie.Start
   begun = c .before .before .before .before
 
-  counts-put : Sections (begun .args .t1) (now (begun .args .space)) 1 (c .put-record .result) (c .put-record .last .1 .0)
+  counts-put : Sections (lists begun) (now (begun .args .space)) 1 (c .put-record .result) (c .put-record .last .1 .0)
+  unfolding planRead
   counts-put =
       let a = begun .args in
       let counts = C (a .t1 .resources) (a .t1 .types) (a .t1 .rows) in
       rw zero-add at
-      (section-more (a .t1) (now (a .space)) 0 (none-put 0 (now (a .space)))
+      (section-more (lists begun) (now (a .space)) 0 (none-put 0 (now (a .space)))
       (ap recordText (c .before .before .counts-of .ensures) ∙ sym (append-nil (recordText counts))) (c .put-record .ensures .0))
 
 module _ (c : tie.After-put-entries) where
   abbrev counted : tie.After-put-record
   counted = c .before .before .before .before .before .before .before .before
 
-  capacities-put : Sections (begun counted .args .t1) (now (begun counted .args .space)) 2 (counted .put-record .result + c .put-entries .result) (c .put-entries .last .1 .1 .1 .0)
+  capacities-put : Sections (lists (begun counted)) (now (begun counted .args .space)) 2 (counted .put-record .result + c .put-entries .result) (c .put-entries .last .1 .1 .1 .0)
+  unfolding planRead
   capacities-put =
       let a = begun counted .args in
-      section-more (a .t1) (now (a .space)) 1 (counts-put counted)
+      section-more (lists (begun counted)) (now (a .space)) 1 (counts-put counted)
       (ap (λ q. textOf (entryRecords (entryOf q) (a .t1 .resources) (a .t1 .capacity))) (c .before .before .before .before .before .records-of .ensures)) (c .put-entries .ensures .0)
 
 module _ (c : tie.After-put-entries2) where
@@ -46,11 +53,12 @@ module _ (c : tie.After-put-entries2) where
   listed = c .before .before .before .before .before .before .before .before
 
   lengths-put : let s = begun (counted listed) in
-      Sections (s .args .t1) (now (s .args .space)) 3 (counted listed .put-record .result + listed .put-entries .result + c .put-entries2 .result)
+      Sections (lists s) (now (s .args .space)) 3 (counted listed .put-record .result + listed .put-entries .result + c .put-entries2 .result)
       (c .put-entries2 .last .1 .1 .1 .0)
+  unfolding planRead
   lengths-put =
       let a = begun (counted listed) .args in
-      section-more (a .t1) (now (a .space)) 2 (capacities-put listed)
+      section-more (lists (begun (counted listed))) (now (a .space)) 2 (capacities-put listed)
       (ap (λ q. textOf (entryRecords (entryOf q) (a .t1 .types) (a .t1 .lengths))) (c .before .before .before .before .before .records-of2 .ensures)) (c .put-entries2 .ensures .0)
 
   few : counted listed .put-record .result + listed .put-entries .result + c .put-entries2 .result ≤ 23506
@@ -101,8 +109,8 @@ add-result c = omega (arith, few (c .before .before))
 same-length : tie.Need-same-length
 same-length c =
     let d = c .before .before in
-    let a = begun (counted (listed d)) .args in
-    sections-length (a .t1) (now (a .space)) 3 (lengths-put d)
+    let s = begun (counted (listed d)) in
+    sections-length (lists s) (now (s .args .space)) 3 (lengths-put d)
 
 returns : tie.Need-returns
 returns c = (lengths-put (c .before .before), few (c .before .before))

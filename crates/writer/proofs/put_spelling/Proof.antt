@@ -3,6 +3,8 @@ use Prim.Native.Nat.{ℕ, _+_, _≤_}
 use native.Mathlib.Omega.{arith}
 use mathlib.Core.Path.{refl, ap}
 use denote.Ref.{now}
+use Rattle.model.specs.declared.Plan.{Plan}
+use Rattle.plan_bytes.specs.Over.{planRead, planOver}
 use Rattle.plan_spelling.specs.Spelling.{entryRecords, textOf, spelling}
 use Rattle.plan_spelling.specs.WriterParts.{entryOf}
 use Rattle.plan_spelling.proofs.Puts.{Sections, section-more, sections-length}
@@ -11,6 +13,9 @@ use Rattle.writer.proofs.put_spelling.Statement.{statement}
 use Rattle.writer.proofs.put_spelling.Tie as tie
 
 module _ (s : tie.Start) where
+  abbrev plan : Plan
+  plan = planOver (s .args .t1) (s .args .stages .now)
+
   few-counts : (s .args .t1 .resources ≤ 255) × (s .args .t1 .rows ≤ 255)
   few-counts = search needs
 
@@ -20,20 +25,22 @@ module _ (c : tie.After-put-demands) where
   listed = c .before .before .before .before
 
   abbrev begun : tie.Start
-  begun = listed .before .before .before
+  begun = listed .before .before .before .before
 
-  demands-put : Sections (begun .args .t1) (now (begun .args .space)) 4 (listed .put-lists .result + c .put-demands .result) (c .put-demands .last .1 .0)
+  demands-put : Sections (plan begun) (now (begun .args .space)) 4 (listed .put-lists .result + c .put-demands .result) (c .put-demands .last .1 .1 .0)
+  unfolding planOver planRead
   demands-put =
-      let a = begun .args in section-more (a .t1) (now (a .space)) 3 (listed .put-lists .ensures .0) refl (c .put-demands .ensures .0)
+      section-more (plan begun) (now (begun .args .space)) 3 (listed .put-lists .ensures .0) refl (c .put-demands .ensures .0)
 
 module _ (c : tie.After-put-bounds) where
   abbrev demanded : tie.After-put-demands
   demanded = c .before .before .before .before .before .before .before
 
   bounds-put : let s = begun demanded in
-      Sections (s .args .t1) (now (s .args .space)) 5 (listed demanded .put-lists .result + demanded .put-demands .result + c .put-bounds .result)
+      Sections (plan s) (now (s .args .space)) 5 (listed demanded .put-lists .result + demanded .put-demands .result + c .put-bounds .result)
       (c .put-bounds .last .1 .1 .0)
-  bounds-put = let a = begun demanded .args in section-more (a .t1) (now (a .space)) 4 (demands-put demanded) refl (c .put-bounds .ensures .0)
+  unfolding planOver planRead
+  bounds-put = let s = begun demanded in section-more (plan s) (now (s .args .space)) 4 (demands-put demanded) refl (c .put-bounds .ensures .0)
 
 module _ (c : tie.After-put-weights) where
   abbrev bounded : tie.After-put-bounds
@@ -45,11 +52,11 @@ module _ (c : tie.After-put-weights) where
   abbrev before-weights : ℕ
   before-weights = listed (demanded bounded) .put-lists .result + demanded bounded .put-demands .result + bounded .put-bounds .result
 
-  weights-put : Sections (started .args .t1) (now (started .args .space)) 6 (before-weights + c .put-weights .result) (c .put-weights .last .1 .0)
-  weights-put = let a = started .args in section-more (a .t1) (now (a .space)) 5 (bounds-put bounded) refl (c .put-weights .ensures .0)
+  weights-put : Sections (plan started) (now (started .args .space)) 6 (before-weights + c .put-weights .result) (c .put-weights .last .1 .1 .0)
+  weights-put = section-more (plan started) (now (started .args .space)) 5 (bounds-put bounded) refl (c .put-weights .ensures .0)
 
   -- far below the largest number
-  few : before-weights + c .put-weights .result ≤ 30000000000000000
+  few : before-weights + c .put-weights .result ≤ 4000000000000000000
   few =
       omega (
         arith,
@@ -64,11 +71,12 @@ module _ (c : tie.After-put-entries) where
   abbrev weighed : tie.After-put-weights
   weighed = c .before .before .before .before .before .before .before .before
 
-  ranks-put : Sections (started weighed .args .t1) (now (started weighed .args .space)) 7 (before-weights weighed + weighed .put-weights .result + c .put-entries .result)
+  ranks-put : Sections (plan (started weighed)) (now (started weighed .args .space)) 7 (before-weights weighed + weighed .put-weights .result + c .put-entries .result)
       (c .put-entries .last .1 .1 .1 .0)
+  unfolding planOver planRead
   ranks-put =
       let a = started weighed .args in
-      section-more (a .t1) (now (a .space)) 6 (weights-put weighed)
+      section-more (plan (started weighed)) (now (a .space)) 6 (weights-put weighed)
       (ap (λ q. textOf (entryRecords (entryOf q) (a .t1 .resources) (a .t1 .rank))) (c .before .before .before .before .before .records-of .ensures)) (c .put-entries .ensures .0)
 
 put-lists-requires : tie.Need-put-lists-requires
@@ -104,7 +112,7 @@ records-of-requires : tie.Need-records-of-requires
 records-of-requires c κs = search needs
 
 cast-put-entries : tie.Need-cast-put-entries
-cast-put-entries c = search needs
+cast-put-entries c = let w = c .before .before .before .before .before .before in omega (arith, few-counts (started w))
 
 put-entries-requires : tie.Need-put-entries-requires
 put-entries-requires c κs = search needs
@@ -117,8 +125,8 @@ add-result c =
 same-length : tie.Need-same-length
 same-length c =
     let d = c .before .before in
-    let a = started (weighed d) .args in
-    sections-length (a .t1) (now (a .space)) 7 (ranks-put d)
+    let s = started (weighed d) in
+    sections-length (plan s) (now (s .args .space)) 7 (ranks-put d)
 
 returns : tie.Need-returns
 unfolding spelling

@@ -5,6 +5,7 @@ use mathlib.Core.Path.{sym, _∙_}
 use denote.Ref.{now}
 use lib.ListN.{length}
 use borrow.Author.Tests.{not-true, not-false}
+use Rattle.plan_bytes.specs.Over.{planOver}
 use Rattle.moves_text.proofs.Overlays.{overlaid-whole}
 use Rattle.plan_spelling.specs.Spelling.{spelling}
 use Rattle.plan_spelling.specs.declared.WriteAnswer.the-variants.{Written}
@@ -22,8 +23,9 @@ refused-requires c κs = search needs
 returns : tie.Need-returns
 returns c =
     let asked = c .before .before in
-    let a = asked .before .before .args in
-    let w = unsound-refused (a .p) (now (a .space)) (sym (asked .is-sound .ensures) ∙ not-true _ (c .before .if1 .taken)) in
+    let a = asked .before .before .before .args in
+    let p = planOver (a .frame) (a .stages .now) in
+    let w = unsound-refused p (now (a .space)) (sym (asked .is-sound .ensures) ∙ not-true _ (c .before .if1 .taken)) in
     (c .refused .ensures ∙ w .0, w .1)
 
 spelling-length-requires : tie.Need-spelling-length-requires
@@ -36,10 +38,11 @@ returns-2 : tie.Need-returns-2
 returns-2 c =
     let measured = c .before .before in
     let asked = measured .before .before in
-    let a = asked .before .before .args in
+    let a = asked .before .before .before .args in
+    let p = planOver (a .frame) (a .stages .now) in
     let good = sym (asked .is-sound .ensures) ∙ not-false _ (measured .before .if1 .left) in
-    let none = room-short (length (spelling (a .p))) (length (now (a .space))) (omega (arith, measured .spelling-length .ensures, c .before .if2 .taken)) in
-    let w = long-refused (a .p) (now (a .space)) good none in
+    let none = room-short (length (spelling p)) (length (now (a .space))) (omega (arith, measured .spelling-length .ensures, c .before .if2 .taken)) in
+    let w = long-refused p (now (a .space)) good none in
     (c .refused2 .ensures ∙ w .0, w .1)
 
 refused-requires-3 : tie.Need-refused-requires-3
@@ -49,11 +52,12 @@ returns-3 : tie.Need-returns-3
 returns-3 c =
     let measured = c .before .before .before in
     let asked = measured .before .before in
-    let a = asked .before .before .args in
+    let a = asked .before .before .before .args in
+    let p = planOver (a .frame) (a .stages .now) in
     let good = sym (asked .is-sound .ensures) ∙ not-false _ (measured .before .if1 .left) in
-    let none = room-long (length (spelling (a .p))) (length (now (a .space))) (omega (arith, measured .spelling-length .ensures, c .before .before .if2 .left))
+    let none = room-long (length (spelling p)) (length (now (a .space))) (omega (arith, measured .spelling-length .ensures, c .before .before .if2 .left))
     (omega (arith, measured .spelling-length .ensures, c .before .if3 .taken)) in
-    let w = long-refused (a .p) (now (a .space)) good none in
+    let w = long-refused p (now (a .space)) good none in
     (c .refused3 .ensures ∙ w .0, w .1)
 
 put-spelling-requires : tie.Need-put-spelling-requires
@@ -67,13 +71,14 @@ returns-4 c =
     let put = c .before .before in
     let measured = put .before .before .before .before in
     let asked = measured .before .before in
-    let a = asked .before .before .args in
+    let a = asked .before .before .before .args in
+    let p = planOver (a .frame) (a .stages .now) in
     let size = measured .spelling-length .ensures in
     let good = sym (asked .is-sound .ensures) ∙ not-false _ (measured .before .if1 .left) in
-    let fits : length (spelling (a .p)) ≤ length (now (a .space)) = omega (arith, size, put .before .before .before .if2 .left) in
-    let some = has-room (length (spelling (a .p))) (length (now (a .space))) fits (omega (arith, size, put .before .before .if3 .left)) in
-    let w = all-written (a .p) (now (a .space)) good some in
-    let filled = overlaid-whole (spelling (a .p)) (now (a .space)) fits in
+    let fits : length (spelling p) ≤ length (now (a .space)) = omega (arith, size, put .before .before .before .if2 .left) in
+    let some = has-room (length (spelling p)) (length (now (a .space))) fits (omega (arith, size, put .before .before .if3 .left)) in
+    let w = all-written p (now (a .space)) good some in
+    let filled = overlaid-whole (spelling p) (now (a .space)) fits in
     ((λ i. record { answer = Written; length = size i }) ∙ w .0, put .put-spelling .ensures .1 ∙ filled ∙ w .1)
 
 pub write-plan-spec : {M : Type 1} → statement M

@@ -1,17 +1,26 @@
--- The answer is that of the first two questions.
+-- The answer is that of the first two questions, asked of the list's numbers.
 use mathlib.Core.Path.{ap, _∙_}
+use Rattle.plan_bytes.specs.Over.{planOver}
+use Rattle.parts.specs.Parts.{agreed}
 use Rattle.parts.specs.declared.Agreement.{Agreement}
+use Rattle.parts.proofs.JobsLaid.{over-laid}
 use Rattle.parts.proofs.FirstQuestions.{agreed-answer}
 use Rattle.admission.proofs.Table.agreement.Statement.{statement}
 use Rattle.admission.proofs.Table.agreement.Tie as tie
+
+laid-requires : tie.Need-laid-requires
+laid-requires c κs = tt
 
 agree-requires : tie.Need-agree-requires
 agree-requires c κs = tt
 
 returns : tie.Need-returns
 returns c =
-    let a = c .before .before .args in
-    ap (λ (g : Agreement). g .answer) (c .agree .ensures) ∙ agreed-answer (a .p) (a .self .list)
+    let laid = c .before .before .laid in
+    let a = c .before .before .before .before .before .args in
+    let plan = planOver (a .frame) (a .stages .now) in
+    let told = c .agree .ensures ∙ ap (agreed plan) (over-laid (a .self .list) (laid .result) (laid .ensures)) in
+    ap (λ (g : Agreement). g .answer) told ∙ agreed-answer plan (a .self .list)
 
 pub agreement-spec : {M : Type 1} → statement M
-agreement-spec = tie.close (tie.spec agree-requires returns)
+agreement-spec = tie.close (tie.spec laid-requires agree-requires returns)

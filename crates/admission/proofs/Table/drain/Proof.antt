@@ -1,4 +1,5 @@
 -- The list handed back is put into a table.
+use Rattle.plan_bytes.specs.Over.{planOver}
 use Rattle.admission.proofs.HandedBack.{drain-handed}
 use Rattle.admission.proofs.Table.drain.Statement.{statement}
 use Rattle.admission.proofs.Table.drain.Tie as tie
@@ -8,9 +9,9 @@ drain-requires c κs = tt
 
 returns : tie.Need-returns
 returns c =
-    let a = c .before .before .before .args in
+    let a = c .before .before .before .before .args in
     let d = c .before .drain in
-    drain-handed (a .p) (a .self) (a .budget) (d .result) (d .ensures)
+    drain-handed (planOver (a .frame) (a .stages .now)) (a .self) (a .budget) (d .result) (d .ensures)
 
 pub drain-spec : {M : Type 1} → statement M
 drain-spec = tie.close (tie.spec drain-requires returns)

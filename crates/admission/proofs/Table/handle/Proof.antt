@@ -1,59 +1,33 @@
--- In each arm the event is known, and so is the method that it names.
-use mathlib.Core.Path.{sym, ap, _∙_}
-use borrow.Author.Needs.{needs}
-use Rattle.admission.specs.Table.{outcome}
+-- What the event does to the list by its numbers is what it does to the list, and that is put into a table.
+use mathlib.Core.Path.{_≡_, subst, _∙_}
+use Rattle.plan_bytes.specs.Over.{planOver}
+use Rattle.events.specs.Events.{listOutcome}
+use Rattle.events.specs.declared.JobList.{JobList}
+use Rattle.parts.specs.JobNumbers.{applied}
+use Rattle.parts.proofs.JobsLaid.{over-laid}
+use Rattle.admission.proofs.HandedBack.{event-handed}
 use Rattle.admission.proofs.Table.handle.Statement.{statement}
 use Rattle.admission.proofs.Table.handle.Tie as tie
 
-enum-known-event : tie.Need-enum-known-event
-enum-known-event c = search needs
+laid-requires : tie.Need-laid-requires
+laid-requires c κs = tt
 
-load-requires : tie.Need-load-requires
-load-requires c κs = search needs
+judge-requires : tie.Need-judge-requires
+judge-requires c κs = tt
 
-enum-known-event-2 : tie.Need-enum-known-event-2
-enum-known-event-2 c = search needs
-
-advance-requires : tie.Need-advance-requires
-advance-requires c κs = search needs
-
-enum-known-event-3 : tie.Need-enum-known-event-3
-enum-known-event-3 c = search needs
-
-unload-requires : tie.Need-unload-requires
-unload-requires c κs = search needs
-
-enum-known-event-4 : tie.Need-enum-known-event-4
-enum-known-event-4 c = search needs
-
-pull-requires : tie.Need-pull-requires
-pull-requires c κs = search needs
+changed-requires : tie.Need-changed-requires
+changed-requires c κs = tt
 
 returns : tie.Need-returns
-returns c = let a = c .before .before .before .before .args in c .load .ensures ∙ ap (outcome (a .p) (a .self)) (sym (c .before .before .event .given .1))
-
-returns-2 : tie.Need-returns-2
-returns-2 c = let a = c .before .before .before .before .args in c .advance .ensures ∙ ap (outcome (a .p) (a .self)) (sym (c .before .before .event2 .given .1))
-
-returns-3 : tie.Need-returns-3
-returns-3 c = let a = c .before .before .before .before .args in c .unload .ensures ∙ ap (outcome (a .p) (a .self)) (sym (c .before .before .event3 .given .1))
-
-returns-4 : tie.Need-returns-4
-returns-4 c = let a = c .before .before .before .before .args in c .pull .ensures ∙ ap (outcome (a .p) (a .self)) (sym (c .before .before .event4 .given .1))
+returns c =
+    let led = c .before in
+    let judged = led .before in
+    let laid = judged .before .before .laid in
+    let a = judged .before .before .before .before .before .args in
+    let plan = planOver (a .frame) (a .stages .now) in
+    let same = over-laid (a .self .list) (laid .result) (laid .ensures) in
+    let leads = subst (λ (t : JobList). applied t (judged .judge .result) ≡ listOutcome plan t (a .event)) same (judged .judge .ensures) in
+    event-handed plan (a .self) (a .event) (led .changed .result) (led .changed .ensures ∙ leads)
 
 pub handle-spec : {M : Type 1} → statement M
-handle-spec =
-    tie.close
-    (tie.spec
-    enum-known-event
-    load-requires
-    enum-known-event-2
-    advance-requires
-    enum-known-event-3
-    unload-requires
-    enum-known-event-4
-    pull-requires
-    returns
-    returns-2
-    returns-3
-    returns-4)
+handle-spec = tie.close (tie.spec laid-requires judge-requires changed-requires returns)

@@ -1,17 +1,12 @@
--- The list handed back is put into a table.
-use Rattle.events.specs.declared.Event.the-variants.{Load}
-use Rattle.admission.proofs.HandedBack.{event-handed}
+-- The event by the method for any.
 use Rattle.admission.proofs.Table.load.Statement.{statement}
 use Rattle.admission.proofs.Table.load.Tie as tie
 
-load-requires : tie.Need-load-requires
-load-requires c κs = tt
+handle-requires : tie.Need-handle-requires
+handle-requires c κs = tt
 
 returns : tie.Need-returns
-returns c =
-    let a = c .before .before .before .args in
-    let o = c .before .load in
-    event-handed (a .p) (a .self) (Load (a .job) (a .kind)) (o .result) (o .ensures)
+returns c = c .handle .ensures
 
 pub load-spec : {M : Type 1} → statement M
-load-spec = tie.close (tie.spec load-requires returns)
+load-spec = tie.close (tie.spec handle-requires returns)

@@ -1,17 +1,12 @@
--- The list handed back is put into a table.
-use Rattle.events.specs.declared.Event.the-variants.{Unload}
-use Rattle.admission.proofs.HandedBack.{event-handed}
+-- The event by the method for any.
 use Rattle.admission.proofs.Table.unload.Statement.{statement}
 use Rattle.admission.proofs.Table.unload.Tie as tie
 
-unload-requires : tie.Need-unload-requires
-unload-requires c κs = tt
+handle-requires : tie.Need-handle-requires
+handle-requires c κs = tt
 
 returns : tie.Need-returns
-returns c =
-    let a = c .before .before .before .args in
-    let o = c .before .unload in
-    event-handed (a .p) (a .self) (Unload (a .job)) (o .result) (o .ensures)
+returns c = c .handle .ensures
 
 pub unload-spec : {M : Type 1} → statement M
-unload-spec = tie.close (tie.spec unload-requires returns)
+unload-spec = tie.close (tie.spec handle-requires returns)

@@ -34,7 +34,7 @@ returns : tie.Need-returns
 returns c =
     let first = c .before .before in
     let a = first .before .before .before .args in
-    let bytes = now (a .cell) in
+    let bytes = now (a .bounds) in
     let e1 : first .u8-to-u16 .result ≡ getD bytes (a .at) 0 = first .u8-to-u16 .ensures .0 in
     let e2 : c .u8-to-u162 .result ≡ getD bytes (a .at + 1) 0 = c .u8-to-u162 .ensures .0 in
     rw (e1, e2) (number-of-two (a .at) bytes (omega arith))

@@ -1,23 +1,10 @@
 -- The part that is copied fills the whole array.
-use native.Mathlib.Omega.{arith}
-use mathlib.Core.Path.{refl, _∙_}
+use mathlib.Core.Path.{sym, _∙_}
 use denote.Ref.{now}
 use Rattle.cell_layout.proofs.Entries.{copied}
 use borrow.Author.Needs.{needs}
 use Rattle.cell_reads.proofs.entries.bytes_16.Statement.{statement}
 use Rattle.cell_reads.proofs.entries.bytes_16.Tie as tie
-
-add-end : tie.Need-add-end
-add-end c = search needs
-
-sub-copy : tie.Need-sub-copy
-sub-copy c = search needs
-
-part-copy-start : tie.Need-part-copy-start
-part-copy-start c = search needs
-
-part-copy-end : tie.Need-part-copy-end
-part-copy-end c = search needs
 
 slice-aggregate-copy : tie.Need-slice-aggregate-copy
 slice-aggregate-copy c = search needs
@@ -27,17 +14,8 @@ copy-requires c κs = search needs
 
 returns : tie.Need-returns
 returns c =
-    let a = c .before .before .before .before .before .args in
-    c .before .copy .ensures .1 ∙ copied (a .at) 16 (now (a .cell)) _ (omega arith) refl
+    let start = c .before .before .before .before in
+    c .before .copy .ensures .1 ∙ copied (now (start .args .part)) _ (sym (start .pre))
 
 pub bytes-16-spec : {M : Type 1} → statement M
-bytes-16-spec =
-    tie.close
-    (tie.spec
-    add-end
-    sub-copy
-    part-copy-start
-    part-copy-end
-    slice-aggregate-copy
-    copy-requires
-    returns)
+bytes-16-spec = tie.close (tie.spec slice-aggregate-copy copy-requires returns)

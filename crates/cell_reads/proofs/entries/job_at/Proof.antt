@@ -26,9 +26,9 @@ number-at-requires-3 c κs = search needs
 returns : tie.Need-returns
 returns c =
     let a = c .before .before .before .before .args in
-    let number = c .before .before .number-at .ensures ∙ ap numberOf (sym (part-first 4 (a .at) 12 (now (a .cell)) (omega arith))) in
-    let kind = c .before .number-at2 .ensures ∙ ap numberOf (sym (part-of-part 4 4 (a .at) 12 (now (a .cell)) (omega arith))) in
-    let stage = c .number-at3 .ensures ∙ ap numberOf (sym (part-of-part 8 4 (a .at) 12 (now (a .cell)) (omega arith))) in
+    let number = c .before .before .number-at .ensures ∙ ap numberOf (sym (part-first 4 (a .at) 12 (now (a .jobs)) (omega arith))) in
+    let kind = c .before .number-at2 .ensures ∙ ap numberOf (sym (part-of-part 4 4 (a .at) 12 (now (a .jobs)) (omega arith))) in
+    let stage = c .number-at3 .ensures ∙ ap numberOf (sym (part-of-part 8 4 (a .at) 12 (now (a .jobs)) (omega arith))) in
     λ i. record { number = number i; kind = kind i; stage = stage i }
 
 pub job-at-spec : {M : Type 1} → statement M

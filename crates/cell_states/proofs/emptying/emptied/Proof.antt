@@ -4,10 +4,10 @@ use Rattle.cell_states.proofs.emptying.emptied.Statement.{statement}
 use Rattle.cell_states.proofs.emptying.emptied.Tie as tie
 
 abbrev Inv-loop : tie.InvT-loop
-Inv-loop s p set₀ left₀ set left = Unit {0}
+Inv-loop s frame stages set₀ left₀ set left = Unit {0}
 
 abbrev μ-loop : tie.MeasureT-loop
-μ-loop s p set₀ left₀ set left = left
+μ-loop s frame stages set₀ left₀ set left = left
 
 loop-holds : tie.Need-loop-holds Inv-loop μ-loop
 loop-holds c = search needs

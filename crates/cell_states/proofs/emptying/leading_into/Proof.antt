@@ -5,10 +5,10 @@ use Rattle.cell_states.proofs.emptying.leading_into.Statement.{statemen
 use Rattle.cell_states.proofs.emptying.leading_into.Tie as tie
 
 abbrev Inv-loop : tie.InvT-loop
-Inv-loop p set s leading₀ n₀ leading n = Unit {0}
+Inv-loop frame stages set s leading₀ n₀ leading n = Unit {0}
 
 abbrev μ-loop : tie.MeasureT-loop
-μ-loop p set s leading₀ n₀ leading n = 48 - n
+μ-loop frame stages set s leading₀ n₀ leading n = 48 - n
 
 loop-holds : tie.Need-loop-holds Inv-loop μ-loop
 loop-holds c = search needs

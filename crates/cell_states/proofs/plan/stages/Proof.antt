@@ -10,26 +10,23 @@ Inv-loop stages₀ i₀ stages i = Unit {0}
 abbrev μ-loop : tie.MeasureT-loop
 μ-loop stages₀ i₀ stages i = 6 - i
 
-stage-requires : tie.Need-stage-requires Inv-loop μ-loop
-stage-requires c κs = search needs
-
 loop-holds : tie.Need-loop-holds Inv-loop μ-loop
 loop-holds c = search needs
-
-mul-stage : tie.Need-mul-stage Inv-loop μ-loop
-mul-stage c = search needs
-
-array-read-stage : tie.Need-array-read-stage Inv-loop μ-loop
-array-read-stage c = search needs
-
-stage-requires-2 : tie.Need-stage-requires-2 Inv-loop μ-loop
-stage-requires-2 c κs = search needs
 
 mul-stages : tie.Need-mul-stages Inv-loop μ-loop
 mul-stages c = search needs
 
-array-set-from-stages : tie.Need-array-set-from-stages Inv-loop μ-loop
-array-set-from-stages c = search needs
+mul-stages-2 : tie.Need-mul-stages-2 Inv-loop μ-loop
+mul-stages-2 c = search needs
+
+array-read-stages : tie.Need-array-read-stages Inv-loop μ-loop
+array-read-stages c = search needs
+
+add-stages : tie.Need-add-stages Inv-loop μ-loop
+add-stages c = search needs
+
+array-write-stages : tie.Need-array-write-stages Inv-loop μ-loop
+array-write-stages c = search needs
 
 add-i : tie.Need-add-i Inv-loop μ-loop
 add-i c = search needs
@@ -49,13 +46,12 @@ stages-spec =
     (tie.spec
     Inv-loop
     μ-loop
-    stage-requires
     loop-holds
-    mul-stage
-    array-read-stage
-    stage-requires-2
     mul-stages
-    array-set-from-stages
+    mul-stages-2
+    array-read-stages
+    add-stages
+    array-write-stages
     add-i
     loop-less
     loop-again

@@ -4,10 +4,10 @@ use Rattle.cell_states.proofs.space.explored.Statement.{statement}
 use Rattle.cell_states.proofs.space.explored.Tie as tie
 
 abbrev Inv-loop : tie.InvT-loop
-Inv-loop p s₀ done₀ left₀ s done left = Unit {0}
+Inv-loop frame stages s₀ done₀ left₀ s done left = Unit {0}
 
 abbrev μ-loop : tie.MeasureT-loop
-μ-loop p s₀ done₀ left₀ s done left = left
+μ-loop frame stages s₀ done₀ left₀ s done left = left
 
 empty-cell-requires : tie.Need-empty-cell-requires Inv-loop μ-loop
 empty-cell-requires c κs = search needs

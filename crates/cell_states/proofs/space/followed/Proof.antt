@@ -5,10 +5,10 @@ use Rattle.cell_states.proofs.space.followed.Statement.{statement}
 use Rattle.cell_states.proofs.space.followed.Tie as tie
 
 abbrev Inv-loop : tie.InvT-loop
-Inv-loop p t next₀ job₀ next job = Unit {0}
+Inv-loop frame stages t next₀ job₀ next job = Unit {0}
 
 abbrev μ-loop : tie.MeasureT-loop
-μ-loop p t next₀ job₀ next job = 6 - job
+μ-loop frame stages t next₀ job₀ next job = 6 - job
 
 loop-holds : tie.Need-loop-holds Inv-loop μ-loop
 loop-holds c = search needs

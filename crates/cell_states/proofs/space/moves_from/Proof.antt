@@ -5,10 +5,10 @@ use Rattle.cell_states.proofs.space.moves_from.Statement.{statement}
 use Rattle.cell_states.proofs.space.moves_from.Tie as tie
 
 abbrev Inv-loop : tie.InvT-loop
-Inv-loop p t own set₀ job₀ set job = Unit {0}
+Inv-loop frame stages t own set₀ job₀ set job = Unit {0}
 
 abbrev μ-loop : tie.MeasureT-loop
-μ-loop p t own set₀ job₀ set job = 6 - job
+μ-loop frame stages t own set₀ job₀ set job = 6 - job
 
 bit-of-requires : tie.Need-bit-of-requires Inv-loop μ-loop
 bit-of-requires c κs = search needs

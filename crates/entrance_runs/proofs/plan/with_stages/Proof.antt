@@ -5,25 +5,28 @@ use Rattle.entrance_runs.proofs.plan.with_stages.Statement.{statement}
 use Rattle.entrance_runs.proofs.plan.with_stages.Tie as tie
 
 abbrev Inv-loop : tie.InvT-loop
-Inv-loop n first n' next₀ at₀ next at = Unit {0}
+Inv-loop n p end next₀ i₀ next i = Unit {0}
 
 abbrev μ-loop : tie.MeasureT-loop
-μ-loop n first n' next₀ at₀ next at = n - at
+μ-loop n p end next₀ i₀ next i = end - i
 
-stage-at-requires : tie.Need-stage-at-requires Inv-loop μ-loop
-stage-at-requires c κs = search needs
+cast-end : tie.Need-cast-end Inv-loop μ-loop
+cast-end c = search needs
 
-cast-n : tie.Need-cast-n Inv-loop μ-loop
-cast-n c = search needs
+mul-end : tie.Need-mul-end Inv-loop μ-loop
+mul-end c = search needs
 
 loop-holds : tie.Need-loop-holds Inv-loop μ-loop
 loop-holds c = search needs
 
-with-stage-requires : tie.Need-with-stage-requires Inv-loop μ-loop
-with-stage-requires c κs = search needs
+element-copy-out-next : tie.Need-element-copy-out-next Inv-loop μ-loop
+element-copy-out-next c = search needs
 
-add-at : tie.Need-add-at Inv-loop μ-loop
-add-at c = search needs
+element-write-next : tie.Need-element-write-next Inv-loop μ-loop
+element-write-next c = search needs
+
+add-i : tie.Need-add-i Inv-loop μ-loop
+add-i c = search needs
 
 loop-less : tie.Need-loop-less Inv-loop μ-loop
 loop-less c = search needs
@@ -40,11 +43,12 @@ with-stages-spec =
     (tie.spec
     Inv-loop
     μ-loop
-    stage-at-requires
-    cast-n
+    cast-end
+    mul-end
     loop-holds
-    with-stage-requires
-    add-at
+    element-copy-out-next
+    element-write-next
+    add-i
     loop-less
     loop-again
     returns)

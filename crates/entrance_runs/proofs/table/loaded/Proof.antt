@@ -5,10 +5,10 @@ use Rattle.entrance_runs.proofs.table.loaded.Statement.{statement}
 use Rattle.entrance_runs.proofs.table.loaded.Tie as tie
 
 abbrev Inv-loop : tie.InvT-loop
-Inv-loop p n n' t₀ job₀ t job = Unit {0}
+Inv-loop n p n' t₀ job₀ t job = Unit {0}
 
 abbrev μ-loop : tie.MeasureT-loop
-μ-loop p n n' t₀ job₀ t job = n - job
+μ-loop n p n' t₀ job₀ t job = n - job
 
 loop-holds : tie.Need-loop-holds Inv-loop μ-loop
 loop-holds c = search needs

@@ -33,7 +33,7 @@ use denote.Memory.{mem, cellAt, partOf}
 use denote.Builtin.{u8}
 use denote.Ref.{RefT, NamedLft, MutRef, now}
 use denote.Lend.{lends-ref, ref-back}
-use denote.Slice.{sliceVal, ShrSlice, shr-slice-copy}
+use denote.Slice.{sliceVal, ShrSlice}
 use denote.Steps.{nothing, heard}
 use denote.Struct.Laws as LL
 use denote.Struct.Steps.{spelt}
@@ -115,13 +115,9 @@ module _ {M : Type 1} (𝓤 : URA M) (H : Heap 𝓤) (A : Atoms 𝓤) (W : Given
     abbrev pub to-new : New 𝓤 H A at-mem run .Ghost
     to-new = (((κ, tt), (q, tt), tt, (s, tt), (v s ∷ [], tt)), tt)
 
-    pub goes-new : ent 𝓤 (⋆ 𝓤 H A (‵ (flft κ q) ∷ ‵ (Own κ s) ∷ [])) (sep 𝓤 (New 𝓤 H A at-mem run .pre to-new) (sem 𝓤 H A (Own κ s)))
+    pub goes-new : ent 𝓤 (⋆ 𝓤 H A (‵ (flft κ q) ∷ ‵ (Own κ s) ∷ [])) (New 𝓤 H A at-mem run .pre to-new)
     goes-new =
-        qed W (‵ (flft κ q) ∷ ‵ (Own κ s) ∷ []) ∵ move ! (1 ∷ []) $
-        use1 W (‵ (Own κ s) ⊛ ‵ (Own κ s)) (shr-slice-copy 𝓤 H A W (named 0) κ u8 .twice s (v s ∷ [])) $ split ! $ move ! (0 ∷ 2 ∷ []) $
-        use2 W (raw (New 𝓤 H A at-mem run .pre to-new))
-        (qed W (‵ (Own κ s) ∷ ‵ (flft κ q) ∷ []) ∵ nothing ! $ move ! (1 ∷ 0 ∷ []) $ fjoin ! $ nothing ! $ move ! (2 ∷ 0 ∷ []) $ join ! $ join ! $ frame ! $ done !) $
-        frame ! $ done !
+        qed W (‵ (flft κ q) ∷ ‵ (Own κ s) ∷ []) ∵ nothing ! $ move ! (2 ∷ 0 ∷ []) $ fjoin ! $ nothing ! $ move ! (2 ∷ 0 ∷ []) $ join ! $ join ! $ frame ! $ done !
 
     pub new-gives : (u : Val) → ent 𝓤 (New 𝓤 H A at-mem run .post to-new u) (H .⇛ (sep 𝓤 (sem 𝓤 H A (B κ .own (atStart s) (u ∷ []))) (A .lft κ q)))
     new-gives u =

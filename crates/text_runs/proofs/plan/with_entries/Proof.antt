@@ -5,19 +5,13 @@ use Rattle.text_runs.proofs.plan.with_entries.Statement.{statement}
 use Rattle.text_runs.proofs.plan.with_entries.Tie as tie
 
 abbrev Inv-loop : tie.InvT-loop
-Inv-loop h p h₀ i₀ h' i = Unit {0}
+Inv-loop h stages frame h₀ i₀ h' i = Unit {0}
 
 abbrev μ-loop : tie.MeasureT-loop
-μ-loop h p h₀ i₀ h' i = 128 - i
+μ-loop h stages frame h₀ i₀ h' i = 128 - i
 
 loop-holds : tie.Need-loop-holds Inv-loop μ-loop
 loop-holds c = search needs
-
-mul-with-stage : tie.Need-mul-with-stage Inv-loop μ-loop
-mul-with-stage c = search needs
-
-element-copy-out-with-stage : tie.Need-element-copy-out-with-stage Inv-loop μ-loop
-element-copy-out-with-stage c = search needs
 
 with-stage-requires : tie.Need-with-stage-requires Inv-loop μ-loop
 with-stage-requires c κs = search needs
@@ -68,8 +62,6 @@ with-entries-spec =
     Inv-loop
     μ-loop
     loop-holds
-    mul-with-stage
-    element-copy-out-with-stage
     with-stage-requires
     element-copy-out-with-byte
     with-byte-requires

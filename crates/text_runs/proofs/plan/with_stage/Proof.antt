@@ -5,19 +5,28 @@ use Rattle.text_runs.proofs.plan.with_stage.Statement.{statement}
 use Rattle.text_runs.proofs.plan.with_stage.Tie as tie
 
 abbrev Inv-loop : tie.InvT-loop
-Inv-loop h s h₀ i₀ h' i = Unit {0}
+Inv-loop h stages at h₀ i₀ h' i = Unit {0}
 
 abbrev μ-loop : tie.MeasureT-loop
-μ-loop h s h₀ i₀ h' i = 32 - i
+μ-loop h stages at h₀ i₀ h' i = 32 - i
 
 loop-holds : tie.Need-loop-holds Inv-loop μ-loop
 loop-holds c = search needs
+
+mul-place : tie.Need-mul-place Inv-loop μ-loop
+mul-place c = search needs
+
+add-place : tie.Need-add-place Inv-loop μ-loop
+add-place c = search needs
 
 element-copy-out-with-byte : tie.Need-element-copy-out-with-byte Inv-loop μ-loop
 element-copy-out-with-byte c = search needs
 
 with-byte-requires : tie.Need-with-byte-requires Inv-loop μ-loop
 with-byte-requires c κs = search needs
+
+add-with-byte : tie.Need-add-with-byte Inv-loop μ-loop
+add-with-byte c = search needs
 
 element-copy-out-with-byte-2 : tie.Need-element-copy-out-with-byte-2 Inv-loop μ-loop
 element-copy-out-with-byte-2 c = search needs
@@ -44,8 +53,11 @@ with-stage-spec =
     Inv-loop
     μ-loop
     loop-holds
+    mul-place
+    add-place
     element-copy-out-with-byte
     with-byte-requires
+    add-with-byte
     element-copy-out-with-byte-2
     with-byte-requires-2
     add-i

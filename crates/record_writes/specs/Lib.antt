@@ -1,0 +1,2 @@
+-- The bytes of a stage after a record.
+pub mod StageBytes

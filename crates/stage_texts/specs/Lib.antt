@@ -1,0 +1,2 @@
+-- What inner functions put.
+pub mod StageRecords
