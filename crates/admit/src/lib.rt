@@ -112,8 +112,13 @@ pub fn advance<'a>(
     let j = found.job;
     let from = stage_index(&frame.lengths, j.kind, j.stage);
     let to = from + 1;
-    let agreement = asked.agreement;
-    let last = kept_after(agreement.sums, stages, from, to, agreement.ceilings);
+    let last = kept_after(
+        asked.agreement.sums,
+        stages,
+        from,
+        to,
+        asked.agreement.ceilings,
+    );
     let Answer::Admitted = last else {
         return refused(last);
     };

@@ -39,7 +39,7 @@ fn within(count: usize) -> usize
 pub fn job_at(jobs: &[u32; 192], at: usize) -> Job
     ensures { λ r. ⌜ r ≡ getD (jobsLaid (now (jobs .entry))) at noJob ⌝ }
 {
-    if 64 <= at {
+    if 63 < at {
         return no_job();
     }
     let from = at * 3;

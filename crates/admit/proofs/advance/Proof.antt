@@ -92,7 +92,7 @@ module _ (c : tie.After-stage-index) where
 -- what the sums say
 module _ (c : tie.After-kept-after) where
   abbrev indexed : tie.After-stage-index
-  indexed = c .before .before
+  indexed = c .before
 
   abbrev m : tie.After-enum-told
   m = going indexed

@@ -49,7 +49,7 @@ returns-2 : tie.Need-returns-2
 returns-2 c =
     let within = c .before .before .before in
     let a = within .before .args in
-    sym (job-laid (a .jobs .now) (a .at) noJob (within .if1 .left))
+    sym (job-laid (a .jobs .now) (a .at) noJob (omega (arith, within .if1 .left)))
 
 pub job-at-spec : {M : Type 1} → statement M
 job-at-spec =
