@@ -1,4 +1,4 @@
--- A demand or a weight of a stage is one byte of those that are lent; beyond the last row and the last stage there is none.
+-- A weight of a stage is one byte of those that are lent; beyond the last row and the last stage there is none. An entry of any part is its byte.
 use Prim.Native.Nat.{ℕ, zero, suc, _+_, _-_, _*_, _≤_, _<_}
 use native.Mathlib.Numerals.{sub-one}
 use native.Mathlib.Omega.{arith}
@@ -6,7 +6,7 @@ use mathlib.Core.List.{List}
 use mathlib.Core.Path.{_≡_, ap, _∙_}
 use lib.ListN.{getD, drop, length-take, List·getD-eq-default}
 use lib.Seq.{getD-take, getD-drop}
-use Rattle.model.specs.Limits.{maxResources, maxRows, maxAllStages}
+use Rattle.model.specs.Limits.{maxRows, maxAllStages}
 use Rattle.model.specs.Numbers.{InRange, at}
 use Rattle.model.specs.declared.Stage.{Stage}
 use Rattle.plan_bytes.specs.Over.{entriesIn, part, stageIn, stageSize}
@@ -27,9 +27,6 @@ part-beyond from n bytes (suc r) h = List·getD-eq-default (part from n bytes) 0
 module _ (bytes : List ℕ) (i : ℕ) (d : Stage) where
   abbrev here : Stage
   here = getD (entriesIn stageIn stageSize maxAllStages bytes) i d
-
-  pub demand-byte : (r : ℕ) → i < maxAllStages → InRange r maxResources → at (here .demand) r ≡ getD bytes (i * 64 + (r - 1)) 0
-  demand-byte r h within = ap (λ (s : Stage). at (s .demand) r) (stage-laid bytes i d h) ∙ part-at (i * 64) 32 bytes r within
 
   pub weight-byte : (w : ℕ) → i < maxAllStages → InRange w maxRows → at (here .weight) w ≡ getD bytes (i * 64 + 32 + (w - 1)) 0
   weight-byte w h within = ap (λ (s : Stage). at (s .weight) w) (stage-laid bytes i d h) ∙ part-at (i * 64 + 32) 32 bytes w within

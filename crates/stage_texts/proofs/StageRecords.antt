@@ -24,7 +24,7 @@ use Rattle.plan_bytes.proofs.Over.{over-whole, over-none}
 use Rattle.plan_bytes.proofs.StageBytes.{stage-beyond}
 use Rattle.plan_text.specs.Meaning.{S, A}
 use Rattle.plan_spelling.specs.Spelling.{listTo, valued, entryRecords, demandRecords, typeWeights}
-use Rattle.stage_texts.specs.StageRecords.{stageAt, stageRecords, recordsFrom, typeRecords, planStages}
+use Rattle.stage_texts.specs.StageRecords.{stageRead, stageRecords, recordsFrom, typeRecords, planStages}
 
 list-same : {A : Type 0} (n : ℕ) (f g : ℕ → List A) → ((i : ℕ) → InRange i n → f i ≡ g i) → listTo n f ≡ listTo n g
 list-same zero f g e = refl
@@ -56,8 +56,8 @@ module _ (resources row t k : ℕ) (s : Stage) where
       (decided (decides-eq row 0))
 
 -- beyond the last stage
-pub records-beyond : (bytes : List ℕ) (resources row t k i : ℕ) → maxAllStages ≤ i → stageRecords resources row t k (stageAt bytes i) ≡ []
-unfolding stageAt
+pub records-beyond : (bytes : List ℕ) (resources row t k i : ℕ) → maxAllStages ≤ i → stageRecords resources row t k (stageRead bytes i) ≡ []
+unfolding stageRead
 records-beyond bytes resources row t k i h =
     ap (stageRecords resources row t k) (stage-beyond bytes i noStage h)
     ∙ records-none resources row t k noStage (zeros-at 32) (zeros-at 32)
@@ -78,7 +78,7 @@ module _ (f : Frame) (bytes : List ℕ) where
   -- of the next type, by where its first stage stands and how many it has
   pub type-told : (row t first count : ℕ) → length bytes ≡ stagesSize → t < f .types → first ≡ sumTo t (at (f .lengths)) → count ≡ at (f .lengths) (t + 1)
       → recordsFrom bytes (f .resources) row (t + 1) first count ≡ typeRecords (planOver f bytes) row (t + 1)
-  unfolding planRead stageAt stageIndex
+  unfolding planRead stageRead stageIndex
   type-told row t first count whole within here many =
       let p = planRead f bytes in
       let before : sumTo t (at (f .lengths)) ≡ sumTo (t + 1 - 1) (at (f .lengths)) = let e : t + 1 - 1 ≡ t = omega arith in rw e refl in

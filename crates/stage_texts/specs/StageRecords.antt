@@ -15,9 +15,9 @@ use Rattle.plan_text.specs.Meaning.{S, A}
 use Rattle.plan_text.specs.declared.Record.{Record}
 use Rattle.plan_spelling.specs.Spelling.{listTo, valued, entryRecords}
 
--- the stage at an index, counted from 0
-unfoldable pub stageAt : List ℕ → ℕ → Stage
-stageAt bytes i = getD (entriesIn stageIn stageSize maxAllStages bytes) i noStage
+-- the stage at an index, counted from 0, of the plan that is read from any bytes (`planRead`)
+unfoldable pub stageRead : List ℕ → ℕ → Stage
+stageRead bytes i = getD (entriesIn stageIn stageSize maxAllStages bytes) i noStage
 
 -- for row 0 what it demands, S; for any other what it weighs in that row, A
 unfoldable pub stageRecords : ℕ → ℕ → ℕ → ℕ → Stage → List Record
@@ -25,7 +25,7 @@ stageRecords resources row t k s = cond (eqb row 0) (entryRecords (S t k) resour
 
 -- of n stages of a type, by where the first stands
 abbrev pub recordsFrom : List ℕ → ℕ → ℕ → ℕ → ℕ → ℕ → List Record
-recordsFrom bytes resources row t first n = listTo n (λ k. stageRecords resources row t k (stageAt bytes (first + (k - 1))))
+recordsFrom bytes resources row t first n = listTo n (λ k. stageRecords resources row t k (stageRead bytes (first + (k - 1))))
 
 -- of a type of a plan, and of all of them
 abbrev pub typeRecords : Plan → ℕ → ℕ → List Record

@@ -7,7 +7,7 @@ ghost use Rattle.model.specs.Numbers.{at};
 ghost use Rattle.moves_text.specs.Space.{overlaidAt};
 ghost use Rattle.plan_bytes.specs.Over.{planOver};
 ghost use Rattle.plan_spelling.specs.Spelling.{demandRecords, weightRecords, textOf};
-ghost use Rattle.stage_texts.specs.StageRecords.{stageAt, stageRecords, recordsFrom, planStages};
+ghost use Rattle.stage_texts.specs.StageRecords.{stageRead, stageRecords, recordsFrom, planStages};
 use entry_texts::put_entries;
 use entry_texts::put_valued;
 use output_lines::at_most;
@@ -18,7 +18,7 @@ use stages::length_of;
 // What the stage at an index, counted from 0, weighs in a row; 0 where there is no such stage, and beyond the last row.
 fn weight_in(stages: &[u8], index: usize, row: u32) -> u32
     requires { ⌜ (length (now stages) ≡ 8192) × (1 ≤ row) ⌝ }
-    ensures { λ r. ⌜ r ≡ at (stageAt (now (stages .entry)) index .weight) row ⌝ }
+    ensures { λ r. ⌜ r ≡ at (stageRead (now (stages .entry)) index .weight) row ⌝ }
 {
     if 128 <= index {
         return 0;
@@ -42,7 +42,7 @@ fn put_stage<'a>(
     at: usize,
 ) -> usize
     requires { ⌜ (length (now stages) ≡ 8192) × (resources ≤ 255) ⌝ }
-    ensures { λ r. ⌜ (r ≡ length (textOf (stageRecords resources row kind stage (stageAt (now (stages .entry)) index)))) × (now (space .exit) ≡ overlaidAt at (textOf (stageRecords resources row kind stage (stageAt (now (stages .entry)) index))) (now (space .entry))) ⌝ }
+    ensures { λ r. ⌜ (r ≡ length (textOf (stageRecords resources row kind stage (stageRead (now (stages .entry)) index)))) × (now (space .exit) ≡ overlaidAt at (textOf (stageRecords resources row kind stage (stageRead (now (stages .entry)) index))) (now (space .entry))) ⌝ }
     ensures { λ r. ⌜ r ≤ 11730 ⌝ }
 {
     if row != 0 {

@@ -9,7 +9,7 @@ use Rattle.plan_text.specs.Meaning.{S, A}
 use Rattle.moves_text.proofs.Overlays.{none-put, put-as}
 use Rattle.plan_spelling.specs.Spelling.{valued, entryRecords, textOf}
 use borrow.Author.Needs.{needs}
-use Rattle.stage_texts.specs.StageRecords.{stageAt}
+use Rattle.stage_texts.specs.StageRecords.{stageRead}
 use Rattle.stage_texts.proofs.StageRecords.{of-demands, of-weight, records-beyond}
 use Rattle.stage_texts.proofs.put_stage.Statement.{statement}
 use Rattle.stage_texts.proofs.put_stage.Tie as tie
@@ -28,7 +28,7 @@ returns c =
     let put = c .before .before in
     let weighed = put .before .before in
     let a = weighed .before .before .before .before .args in
-    let s = stageAt (a .stages .now) (a .index) in
+    let s = stageRead (a .stages .now) (a .index) in
     let told = ap (λ v. valued v (A (a .row) (a .kind) (a .stage))) (weighed .weight-in .ensures) ∙ sym (of-weight (a .resources) (a .row) (a .kind) (a .stage) s (weighed .before .if1 .taken)) in
     (put-as (a .at) (now (a .space)) (ap textOf told) (put .put-valued .ensures .0), omega (arith, put .put-valued .ensures .1))
 
@@ -60,12 +60,12 @@ same-length-2 : tie.Need-same-length-2
 same-length-2 c = search needs
 
 returns-3 : tie.Need-returns-3
-unfolding stageAt
+unfolding stageRead
 returns-3 c =
     let put = c .before .before in
     let there = put .before .before .before in
     let a = there .before .before .before .before .args in
-    let s = stageAt (a .stages .now) (a .index) in
+    let s = stageRead (a .stages .now) (a .index) in
     let lent = ap (λ (x : Stage). entryRecords (S (a .kind) (a .stage)) (a .resources) (x .demand)) (sym (stage-lent (a .stages .now) (a .index) noStage (omega arith))) in
     let told = lent ∙ sym (of-demands (a .resources) (a .row) (a .kind) (a .stage) s (there .before .if1 .left)) in
     (put-as (a .at) (now (a .space)) (ap textOf told) (put .put-entries .ensures .0), omega (arith, put .put-entries .ensures .1, there .before .before .before .before .pre))

@@ -9,12 +9,12 @@ use Rattle.moves_text.proofs.Overlays.{put-as}
 use Rattle.plan_spelling.specs.Spelling.{textOf}
 use Rattle.plan_spelling.proofs.Puts.{Puts, puts-start, puts-more, puts-length, puts-all}
 use borrow.Author.Needs.{needs}
-use Rattle.stage_texts.specs.StageRecords.{stageAt, stageRecords}
+use Rattle.stage_texts.specs.StageRecords.{stageRead, stageRecords}
 use Rattle.stage_texts.proofs.put_type.Statement.{statement}
 use Rattle.stage_texts.proofs.put_type.Tie as tie
 
 abbrev own : List ℕ → ℕ → ℕ → ℕ → ℕ → ℕ → List Record
-own stages resources row kind first k = stageRecords resources row kind k (stageAt stages (first + (k - 1)))
+own stages resources row kind first k = stageRecords resources row kind k (stageRead stages (first + (k - 1)))
 
 abbrev Inv-loop : tie.InvT-loop
 Inv-loop row kind first count resources stages space₀ at from to₀ k₀ space to k = Puts (own stages resources row kind first) 11730 from count k to space₀ space
@@ -69,7 +69,7 @@ loop-again c =
     let a = begun t .args in
     let l = t .loop in
     let e : a .first + l .k ≡ a .first + (l .k + 1 - 1) = omega arith in
-    let told = ap (λ i. textOf (stageRecords (a .resources) (a .row) (a .kind) (l .k + 1) (stageAt (a .stages .now) i))) e in
+    let told = ap (λ i. textOf (stageRecords (a .resources) (a .row) (a .kind) (l .k + 1) (stageRead (a .stages .now) i))) e in
     puts-more (own-here t) 11730 (t .before .at-most .result) (a .count) (now (a .space)) (l .inv) (d .before .before .loop-test .taken)
     (put-as (l .to) (l .space) told (d .put-stage .ensures .0)) (d .put-stage .ensures .1)
 

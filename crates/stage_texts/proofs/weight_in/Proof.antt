@@ -8,18 +8,18 @@ use Rattle.model.proofs.Lists.{zeros-at}
 use Rattle.model.specs.declared.Stage.{Stage}
 use Rattle.plan_bytes.proofs.StageBytes.{weight-byte, weight-beyond, stage-beyond}
 use borrow.Author.Needs.{needs}
-use Rattle.stage_texts.specs.StageRecords.{stageAt}
+use Rattle.stage_texts.specs.StageRecords.{stageRead}
 use Rattle.stage_texts.proofs.weight_in.Statement.{statement}
 use Rattle.stage_texts.proofs.weight_in.Tie as tie
 
 returns : tie.Need-returns
-unfolding stageAt
+unfolding stageRead
 returns c =
     let a = c .before .args in
     sym (ap (λ (s : Stage). at (s .weight) (a .row)) (stage-beyond (a .stages .now) (a .index) noStage (omega arith)) ∙ zeros-at 32 (a .row))
 
 returns-2 : tie.Need-returns-2
-unfolding stageAt
+unfolding stageRead
 returns-2 c =
     let a = c .before .before .args in
     sym (weight-beyond (a .stages .now) (a .index) noStage (a .row) (omega arith) (omega arith))
@@ -46,7 +46,7 @@ cast-result : tie.Need-cast-result
 cast-result c = let a = c .before .before .before .args in omega (arith, c .shared-slice-known .given (a .index * 64 + 32 + (a .row - 1)))
 
 returns-3 : tie.Need-returns-3
-unfolding stageAt
+unfolding stageRead
 returns-3 c =
     let a = c .before .before .before .args in
     sym (weight-byte (a .stages .now) (a .index) noStage (a .row) (omega arith) (omega arith))
