@@ -7,10 +7,10 @@ use events::Answer;
 use events::End;
 use events::Event;
 use events::JobList;
-use joblists::changed;
-use joblists::laid;
 use model::Job;
 use plan_bytes::Frame;
+use table_jobs::changed;
+use table_jobs::laid;
 
 // Document 01's table. Any list may stand in it: whether it agrees with a plan is asked, not assumed.
 pub struct Table {
@@ -53,7 +53,7 @@ impl Table {
     {
         let list = self.list;
         let jobs = laid(list);
-        agreement::agree(frame, stages, list.count, &jobs).answer
+        table_agreement::agree(frame, stages, list.count, &jobs).answer
     }
 
     // Any event. A refusal hands back the same table.
@@ -62,7 +62,7 @@ impl Table {
     {
         let list = self.list;
         let jobs = laid(list);
-        let judgement = admit::judge(frame, stages, list.count, &jobs, event);
+        let judgement = table_events::judge(frame, stages, list.count, &jobs, event);
         let led = changed(list, judgement);
         let answer = led.answer;
         let list = led.list;
@@ -101,7 +101,7 @@ impl Table {
         ensures { λ r. ⌜ r ≡ drain (planOver frame (now (stages .entry))) self budget ⌝ }
     {
         let list = self.list;
-        let drained = draining::drain(list, frame, stages, budget);
+        let drained = table_drain::drain(list, frame, stages, budget);
         let end = drained.end;
         let list = drained.list;
         Drained {

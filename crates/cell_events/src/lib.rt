@@ -3,7 +3,6 @@
 ghost use mathlib.Core.Path.{_≡_};
 ghost use Rattle.cell_layout.specs.HostAnswers.{packed, eventAnswer, eventCell, drainAnswer, drainCell};
 use admission::Table;
-use admit::judge;
 use cell_layout::CELL;
 use cell_layout::JOB_COUNT;
 use cell_layout::STAGES;
@@ -14,10 +13,11 @@ use cell_reads::list_in;
 use cell_writes::put_list;
 use events::Answer;
 use events::Event;
-use joblists::changed;
-use numbers::answer_number;
-use numbers::answer_place;
-use numbers::end_number;
+use table_events::judge;
+use table_jobs::changed;
+use table_numbers::answer_number;
+use table_numbers::answer_place;
+use table_numbers::end_number;
 
 // A number with one place.
 pub fn pack(number: u32, place: u32) -> u64

@@ -9,7 +9,7 @@ use Rattle.model.specs.Upstream.{check}
 use Rattle.events.specs.Events.{isAdmitted, listAfter}
 use Rattle.events.specs.declared.Event.{Event}
 use Rattle.events.specs.declared.Answer.the-variants.{Admitted}
-use Rattle.plan_spelling.specs.Writing.{writing, spaceAfter}
+use Rattle.canonical_text.specs.Writing.{writing, spaceAfter}
 use Rattle.cell_layout.specs.Layout.{cellSize, planIn, listIn, withPlan, withList}
 use Rattle.cell_layout.specs.HostAnswers.{packedCheck, packedAnswer, packedDrain, cellAnswer, cellDrain, noCell, readAnswer, readCell, checkAnswer}
 use Rattle.cell_layout.specs.HostAnswers.{packedWriting, writeAnswer, writtenSpace, eventAnswer, eventCell, drainAnswer, drainCell}

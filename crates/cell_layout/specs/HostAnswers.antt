@@ -14,8 +14,8 @@ use Rattle.events.specs.declared.ListDrained.{ListDrained}
 use Rattle.plan_text.specs.TextQuestions.{textNumber}
 use Rattle.plan_text.specs.Reading.{reading}
 use Rattle.plan_text.specs.declared.Reading.{Reading}
-use Rattle.plan_spelling.specs.Writing.{writeNumber, writing, spaceAfter}
-use Rattle.plan_spelling.specs.declared.Writing.{Writing}
+use Rattle.canonical_text.specs.Writing.{writeNumber, writing, spaceAfter}
+use Rattle.canonical_text.specs.declared.Writing.{Writing}
 use Rattle.cell_layout.specs.Layout.{isCell, planIn, listIn, withPlan, withList}
 
 -- an answer of 64 bits: the published number in the lowest 16, the second place in the next 16, and the first place, the line, the

@@ -5,7 +5,7 @@ ghost use lib.ListN.{length};
 ghost use Rattle.model.specs.Limits.{maxRows};
 ghost use Rattle.events.specs.JobList.{emptyList};
 ghost use Rattle.plan_bytes.specs.Over.{entriesIn};
-ghost use Rattle.parts.specs.JobNumbers.{jobsLaid};
+ghost use Rattle.internals.specs.JobNumbers.{jobsLaid};
 ghost use Rattle.cell_layout.specs.Layout.{numberOf, boundSize, sizeOf, boundsPart, frameIn, listIn};
 use crate::entries::bound_at;
 use crate::entries::bytes_16;
@@ -26,7 +26,7 @@ use cell_layout::TYPES;
 use events::JobList;
 use model::Job;
 use plan_bytes::Frame;
-use plans::empty_frame;
+use plan_empty::empty_frame;
 
 mod entries;
 

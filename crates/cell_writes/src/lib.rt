@@ -18,8 +18,8 @@ use cell_layout::RESOURCES;
 use cell_layout::STAGES;
 use events::JobList;
 use model::Job;
-use output_lines::put_text;
 use plan_bytes::Frame;
+use write_lines::put_text;
 
 // The bytes of all stages.
 const ALL_STAGES: usize = JOB_COUNT - STAGES;

@@ -3,10 +3,10 @@
 use libc::STDERR_FILENO;
 use libc::STDIN_FILENO;
 use libc::STDOUT_FILENO;
-use messages::refusal_message;
-use text_lines::part_of;
-use whole_run::ENOUGH;
-use whole_run::answer_input;
+use moves_messages::refusal_message;
+use moves_run::ENOUGH;
+use moves_run::answer_input;
+use read_lines::part_of;
 
 fn answer(input: &[u8], space: &mut [u8]) {
     let printed = answer_input(input, space);

@@ -3,9 +3,9 @@
 use libc::STDERR_FILENO;
 use libc::STDIN_FILENO;
 use libc::STDOUT_FILENO;
-use messages::text_message;
-use respelling::respell;
-use text_lines::part_of;
+use moves_messages::text_message;
+use read_lines::part_of;
+use write_canonical::respell;
 
 fn answer(text: &[u8], space: &mut [u8]) {
     let printed = respell(text, space);

@@ -2,8 +2,8 @@
 // `text_lines`, which are covered; they themselves are proved by hand.
 ghost use mathlib.Core.Path.{_≡_};
 ghost use Rattle.line_reader.specs.LineReads.{atStart, Reads};
-use text_lines::line_at;
-use text_lines::part_of;
+use read_lines::line_at;
+use read_lines::part_of;
 
 pub struct LineReader<'a> {
     pub text: &'a [u8],

@@ -3,9 +3,9 @@
 ghost use mathlib.Core.Path.{_≡_};
 ghost use Rattle.model.specs.Upstream.{checkNumbers};
 ghost use Rattle.plan_text.specs.TextQuestions.{textNumber};
-ghost use Rattle.plan_spelling.specs.Writing.{writeNumber};
+ghost use Rattle.canonical_text.specs.Writing.{writeNumber};
+use canonical_text::WriteAnswer;
 use model::Check;
-use plan_spelling::WriteAnswer;
 use plan_text::TextAnswer;
 
 pub fn check_number(c: Check) -> u32

@@ -14,15 +14,15 @@ use cell_layout::STAGES;
 use cell_reads::frame_in;
 use cell_writes::put_plan;
 use events::Event;
+use moves_run::answer_input;
 use plan_numbers::check_first;
 use plan_numbers::check_number;
 use plan_numbers::check_second;
 use plan_numbers::text_number;
 use plan_numbers::write_number;
-use reader::read;
-use upstream::upstream_check;
-use whole_run::answer_input;
-use writer::write_plan;
+use plan_upstream::upstream_check;
+use read_plan::read;
+use write_plan::write_plan;
 
 // A number with two places, the check's alone: all other answers have one.
 fn pack_two(number: u32, first: u32, second: u32) -> u64

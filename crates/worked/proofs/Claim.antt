@@ -16,9 +16,9 @@ use Rattle.moves_text.specs.Written.{decimal}
 use Rattle.moves_text.specs.Division.{planLength}
 use Rattle.moves_text.specs.EventLines.{eventIn}
 use Rattle.moves_text.specs.Output.{output}
-use Rattle.plan_spelling.specs.Spelling.{spelling}
-use Rattle.plan_spelling.specs.Writing.{writing, spaceAfter}
-use Rattle.plan_spelling.specs.Respelled.{respelledOutput}
+use Rattle.canonical_text.specs.Spelling.{spelling}
+use Rattle.canonical_text.specs.Writing.{writing, spaceAfter}
+use Rattle.canonical_text.specs.Respelled.{respelledOutput}
 use Rattle.worked.specs.Texts.{capacityText, largeCapacityText, stagesText, moreStagesText, repeatedText, unfinishedText, crossingText, shuffledText, oneStageText, wholeInput, wholeOutput, pullInput, pullOutput, planNumbers}
 use Rattle.worked.specs.Plans.{crossingWith, crossingPlan, equation40, withoutRows, oneStation, oneStage, jobsPerStage}
 use Rattle.worked.specs.Runs.{Row, result, rows}

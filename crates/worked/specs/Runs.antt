@@ -22,8 +22,8 @@ use Rattle.plan_text.specs.TextQuestions.{textNumber}
 use Rattle.plan_text.specs.Reading.{reading}
 use Rattle.moves_text.specs.Quoted.{quoted}
 use Rattle.moves_text.specs.Output.{output}
-use Rattle.plan_spelling.specs.Writing.{writeNumber, writing, spaceAfter}
-use Rattle.plan_spelling.specs.Respelled.{respelledOutput}
+use Rattle.canonical_text.specs.Writing.{writeNumber, writing, spaceAfter}
+use Rattle.canonical_text.specs.Respelled.{respelledOutput}
 use Rattle.worked.specs.Texts.{capacityText, largeCapacityText, stagesText, moreStagesText, repeatedText, unfinishedText, crossingText, shuffledText, oneStageText, wholeInput, wholeOutput, pullInput, pullOutput, planNumbers}
 use Rattle.worked.specs.Plans.{crossingWith, crossingPlan, equation40, withoutRows, oneStation, oneStage, jobsPerStage}
 

@@ -14,8 +14,8 @@ use Rattle.events.specs.declared.Answer.the-variants.{Admitted}
 use Rattle.events.proofs.AnswerTags.{refused-tag}
 use Rattle.plan_bytes.specs.Over.{planOver}
 use Rattle.plan_bytes.specs.declared.Frame.{Frame}
-use Rattle.parts.specs.JobNumbers.{jobsLaid, listOver, applied}
-use Rattle.parts.specs.declared.Judgement.{Judgement}
+use Rattle.internals.specs.JobNumbers.{jobsLaid, listOver, applied}
+use Rattle.internals.specs.declared.Judgement.{Judgement}
 use Rattle.cell_layout.specs.Layout.{cellSize, partIn, stagesPart, frameIn, planIn, listIn, withList}
 use Rattle.cell_layout.specs.HostAnswers.{packed, packedAnswer, cellAnswer}
 use Rattle.cell_layout.proofs.Lent.{lent-in}

@@ -11,7 +11,7 @@ use Rattle.events.specs.JobList.{listOf}
 use Rattle.model.specs.Limits.{maxJobs}
 use Rattle.plan_bytes.specs.Over.{entriesIn}
 use Rattle.plan_bytes.proofs.Laid.{cut-later}
-use Rattle.parts.specs.JobNumbers.{jobRead, jobsLaid}
+use Rattle.internals.specs.JobNumbers.{jobRead, jobsLaid}
 use Rattle.cell_layout.specs.Layout.{numberOf, jobIn, jobSize, partIn, jobsPart, listLaid}
 use Rattle.cell_layout.proofs.Cells.{is-cell, no-cell}
 use Rattle.cell_layout.proofs.Entries.{entries-more, by-pieces}

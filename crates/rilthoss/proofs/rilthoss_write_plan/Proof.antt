@@ -5,9 +5,9 @@ use mathlib.Core.List.{List}
 use mathlib.Core.Path.{_≡_, ap, _∙_}
 use denote.Ref.{now}
 use Rattle.plan_text.specs.TextQuestions.{maxText}
-use Rattle.plan_spelling.specs.Writing.{writing, spaceAfter}
-use Rattle.plan_spelling.specs.declared.Writing.{Writing}
-use Rattle.plan_spelling.proofs.WriteAnswers.{writing-short}
+use Rattle.canonical_text.specs.Writing.{writing, spaceAfter}
+use Rattle.canonical_text.specs.declared.Writing.{Writing}
+use Rattle.canonical_text.proofs.WriteAnswers.{writing-short}
 use Rattle.plan_bytes.specs.Over.{planOver}
 use Rattle.cell_layout.specs.Layout.{stagesPart, partIn, planIn}
 use Rattle.cell_layout.specs.HostAnswers.{packed, packedWriting}

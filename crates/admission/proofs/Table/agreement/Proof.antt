@@ -1,10 +1,10 @@
 -- The answer is that of the first two questions, asked of the list's numbers.
 use mathlib.Core.Path.{ap, _∙_}
 use Rattle.plan_bytes.specs.Over.{planOver}
-use Rattle.parts.specs.Parts.{agreed}
-use Rattle.parts.specs.declared.Agreement.{Agreement}
-use Rattle.parts.proofs.JobsLaid.{over-laid}
-use Rattle.parts.proofs.FirstQuestions.{agreed-answer}
+use Rattle.internals.specs.Parts.{agreed}
+use Rattle.internals.specs.declared.Agreement.{Agreement}
+use Rattle.internals.proofs.JobsLaid.{over-laid}
+use Rattle.internals.proofs.FirstQuestions.{agreed-answer}
 use Rattle.admission.proofs.Table.agreement.Statement.{statement}
 use Rattle.admission.proofs.Table.agreement.Tie as tie
 

@@ -3,8 +3,8 @@ use mathlib.Core.Path.{_≡_, subst, _∙_}
 use Rattle.plan_bytes.specs.Over.{planOver}
 use Rattle.events.specs.Events.{listOutcome}
 use Rattle.events.specs.declared.JobList.{JobList}
-use Rattle.parts.specs.JobNumbers.{applied}
-use Rattle.parts.proofs.JobsLaid.{over-laid}
+use Rattle.internals.specs.JobNumbers.{applied}
+use Rattle.internals.proofs.JobsLaid.{over-laid}
 use Rattle.admission.proofs.HandedBack.{event-handed}
 use Rattle.admission.proofs.Table.handle.Statement.{statement}
 use Rattle.admission.proofs.Table.handle.Tie as tie

@@ -58,14 +58,14 @@ use Rattle.line_reader.proofs.TextLine as R
 use Rattle.line_reader.proofs.TextLine.Laws as R′
 use Rattle.plan_text.proofs.LinePlace as P
 use Rattle.plan_text.proofs.LinePlace.Laws as P′
-use Rattle.text_lines.proofs.line_at as line-at
-use Rattle.text_lines.proofs.line_at.Symbol as line-at-def
-use Rattle.text_lines.proofs.line_at.Symbol.{name as #line-at}
-use Rattle.text_lines.proofs.line_at.Met as line-at-thm
-use Rattle.text_lines.proofs.part_of as part-of
-use Rattle.text_lines.proofs.part_of.Symbol as part-of-def
-use Rattle.text_lines.proofs.part_of.Symbol.{name as #part-of}
-use Rattle.text_lines.proofs.part_of.Met as part-of-thm
+use Rattle.read_lines.proofs.line_at as line-at
+use Rattle.read_lines.proofs.line_at.Symbol as line-at-def
+use Rattle.read_lines.proofs.line_at.Symbol.{name as #line-at}
+use Rattle.read_lines.proofs.line_at.Met as line-at-thm
+use Rattle.read_lines.proofs.part_of as part-of
+use Rattle.read_lines.proofs.part_of.Symbol as part-of-def
+use Rattle.read_lines.proofs.part_of.Symbol.{name as #part-of}
+use Rattle.read_lines.proofs.part_of.Met as part-of-thm
 use Rattle.line_reader.proofs.LineReader.next.Key.{name as #next}
 use Rattle.line_reader.proofs.LineReader.next as next
 use Rattle.line_reader.proofs.LineReader.next.Statement as stated
@@ -310,5 +310,5 @@ next-spec 𝓤 H 𝓜 𝓖 𝓡 =
     entered 𝓤 H (tripleOf 𝓤 H (𝓖 .A) next.signature (next.spec 𝓤 H (𝓖 .A) (𝓜 .mem) (𝓡 .run)))
     (tables 𝓤 H 𝓜 𝓡 code.env .C) (tables 𝓤 H 𝓜 𝓡 code.env .Λ) #next code.function (code.unfolded 𝓤 H 𝓜 𝓡)
     (next-meets 𝓤 H (𝓖 .A) (givenOf 𝓤 H 𝓜 𝓖) (𝓜 .mem) (𝓡 .run) (tablesOf 𝓤 H 𝓜 (tables 𝓤 H 𝓜 𝓡 code.env))
-    (cited 𝓤 H (LineAt 𝓤 H (𝓖 .A) (𝓜 .mem) (𝓡 .run)) 𝓜 𝓡 code.env #line-at line-at-def.routine code.calls-text-lines·line-at (line-at-thm.met 𝓤 H 𝓜 𝓖 𝓡))
-    (cited 𝓤 H (PartOf 𝓤 H (𝓖 .A) (𝓜 .mem) (𝓡 .run)) 𝓜 𝓡 code.env #part-of part-of-def.routine code.calls-text-lines·part-of (part-of-thm.met 𝓤 H 𝓜 𝓖 𝓡)))
+    (cited 𝓤 H (LineAt 𝓤 H (𝓖 .A) (𝓜 .mem) (𝓡 .run)) 𝓜 𝓡 code.env #line-at line-at-def.routine code.calls-read-lines·line-at (line-at-thm.met 𝓤 H 𝓜 𝓖 𝓡))
+    (cited 𝓤 H (PartOf 𝓤 H (𝓖 .A) (𝓜 .mem) (𝓡 .run)) 𝓜 𝓡 code.env #part-of part-of-def.routine code.calls-read-lines·part-of (part-of-thm.met 𝓤 H 𝓜 𝓖 𝓡)))

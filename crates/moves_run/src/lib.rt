@@ -1,0 +1,109 @@
+// The whole run of `cellmoves`: from the bytes of an input to the bytes that are printed.
+ghost use mathlib.Core.Path.{_≡_};
+ghost use Prim.Native.Nat.{_+_, _≤_};
+ghost use lib.ListN.{length};
+ghost use Rattle.events.specs.JobList.{emptyList};
+ghost use Rattle.plan_bytes.specs.Over.{planOver};
+ghost use Rattle.moves_text.specs.Output.{toPrint, output};
+ghost use Rattle.moves_text.specs.Space.{filled, lengthFilled, overlaid, overlaidAt};
+use admission::Table;
+use moves_head::put_about;
+use moves_input::event_of;
+use moves_input::plan_length;
+use moves_text::EventLine;
+use plan_bytes::Frame;
+use plan_numbers::text_number;
+use read_lines::line_end;
+use read_lines::part_of;
+use read_plan::read;
+use table_numbers::answer_number;
+use table_numbers::answer_place;
+use write_lines::put_event_line;
+use write_lines::put_plan_line;
+
+// A space of so many bytes is enough for every output.
+pub const ENOUGH: usize = 491526;
+
+// The lines of the events, each answered at the table that the ones before it left; the place after them.
+fn put_replies(events: &[u8], frame: Frame, stages: &[u8], space: &mut [u8], start: usize) -> usize
+    requires { ⌜ (length (now events) ≤ 65536) × (start ≤ 65536) ⌝ }
+    ensures { λ r. ⌜ (let out = toPrint (planOver frame (now (stages .entry))) emptyList 1 (now (events .entry)) in
+        (r ≡ start + length out) × (now (space .exit) ≡ overlaidAt start out (now (space .entry)))) ⌝ }
+{
+    let mut table = Table::empty();
+    let mut ordinal: u32 = 1;
+    let mut put = start;
+    let mut at = 0;
+    while at < events.len() {
+        let end = line_end(events, at);
+        let line = event_of(&events[at..end], end < events.len());
+        at = end + 1;
+        match line {
+            EventLine::Skipped => {}
+            EventLine::Malformed => {
+                let active = table.list.count as u32;
+                put += put_event_line(ordinal, 41, 0, active, space, put);
+                ordinal += 1;
+            }
+            EventLine::Given(event) => {
+                let before = table;
+                let outcome = before.handle(frame, stages, event);
+                let answer = outcome.answer;
+                let after = outcome.table;
+                let active = after.list.count as u32;
+                let number = answer_number(answer);
+                let place = answer_place(answer);
+                put += put_event_line(ordinal, number, place, active, space, put);
+                ordinal += 1;
+                table = after;
+            }
+        }
+    }
+    put
+}
+
+// As much of the output as fits, and the length of all of it.
+fn put_output(input: &[u8], space: &mut [u8]) -> usize
+    ensures { λ r. ⌜ (r ≡ length (output (now (input .entry)))) × (now (space .exit) ≡ overlaid (output (now (input .entry))) (now (space .entry))) ⌝ }
+{
+    if 65536 < input.len() {
+        return put_plan_line(1, 0, space, 0);
+    }
+    let n = plan_length(input);
+    let first = n + 2;
+    let reading = read(part_of(input, 0, n));
+    let answer = reading.answer;
+    let frame = reading.frame;
+    let stages = reading.stages;
+    let at = put_about(text_number(answer), reading.line, frame, &stages, space);
+    put_replies(
+        part_of(input, first, input.len()),
+        frame,
+        &stages,
+        space,
+        at,
+    )
+}
+
+// The length of the output; what is put is not kept.
+fn output_length(input: &[u8]) -> usize
+    ensures { λ r. ⌜ r ≡ length (output (now (input .entry))) ⌝ }
+{
+    let mut scratch = [0u8; 1];
+    put_output(input, &mut scratch)
+}
+
+// The space then begins with the output, and the answer is its length. Where the output does not fit, the space is left as it is
+// and the answer is 0; a space shorter than `ENOUGH` costs a second run, which measures.
+pub fn answer_input(input: &[u8], space: &mut [u8]) -> usize
+    ensures { λ r. ⌜ (r ≡ lengthFilled (output (now (input .entry))) (now (space .entry))) × (now (space .exit) ≡ filled (output (now (input .entry))) (now (space .entry))) ⌝ }
+{
+    if ENOUGH <= space.len() {
+        return put_output(input, space);
+    }
+    let needed = output_length(input);
+    if space.len() < needed {
+        return 0;
+    }
+    put_output(input, space)
+}

@@ -1,0 +1,24 @@
+-- The entry is stored at its position, where the list has one.
+use mathlib.Core.Path.{refl}
+use borrow.Author.Needs.{needs}
+use Rattle.plan_entry.proofs.Outside.{put-outside}
+use Rattle.plan_entry.proofs.put_entry.Statement.{statement}
+use Rattle.plan_entry.proofs.put_entry.Tie as tie
+
+position-requires : tie.Need-position-requires
+position-requires c κs = search needs
+
+slice-write-xs : tie.Need-slice-write-xs
+slice-write-xs c = search needs
+
+same-length : tie.Need-same-length
+same-length c = search needs
+
+returns : tie.Need-returns
+returns c = rw (c .before .position .ensures) refl
+
+returns-2 : tie.Need-returns-2
+returns-2 c = put-outside _ _ _ _ (c .before .position .ensures) (c .if1 .left)
+
+pub put-entry-spec : {M : Type 1} → statement M
+put-entry-spec = tie.close (tie.spec position-requires slice-write-xs same-length returns returns-2)

@@ -1,0 +1,63 @@
+-- The text is laid over the part of the space that begins at the place, or over none of it.
+use Prim.Native.Nat.{ℕ, _+_, _-_, min}
+use native.Mathlib.Omega.{arith}
+use mathlib.Core.List.{List, [], _++_, append-nil}
+use mathlib.Core.Path.{_≡_, refl, ap, _∙_}
+use denote.Ref.{now}
+use lib.ListN.{length, take, drop, length-drop, drop-of-length-le}
+use lib.Seq.{take-all}
+use borrow.Author.Needs.{needs}
+use Rattle.moves_text.specs.Space.{overlaid, overlaidAt}
+use Rattle.moves_text.proofs.Overlays.{overlaid-within}
+use Rattle.write_lines.proofs.put_text.Statement.{statement}
+use Rattle.write_lines.proofs.put_text.Tie as tie
+
+module _ (text space : List ℕ) (at from : ℕ) (cut : from ≡ min at (length space)) where
+  abbrev rest : ℕ
+  rest = length space - from
+
+  laid : (part : List ℕ) → part ≡ overlaid text (take rest (drop from space))
+      → take from space ++ (part ++ drop rest (drop from space)) ≡ overlaidAt at text space
+  laid part e =
+      let whole : take rest (drop from space) ≡ drop from space = take-all rest (drop from space) (omega (arith, length-drop from space)) in
+      let end : drop rest (drop from space) ≡ [] = drop-of-length-le (drop from space) {i = rest} (omega (arith, length-drop from space)) in
+      rw (end, append-nil part, e, whole, cut) (overlaid-within at text space)
+
+at-most-requires : tie.Need-at-most-requires
+at-most-requires c κs = search needs
+
+sub-lay : tie.Need-sub-lay
+sub-lay c = search needs
+
+part-lay-start : tie.Need-part-lay-start
+part-lay-start c = search needs
+
+part-lay-end : tie.Need-part-lay-end
+part-lay-end c = search needs
+
+lay-requires : tie.Need-lay-requires
+lay-requires c κs = search needs
+
+same-length : tie.Need-same-length
+same-length c = search needs
+
+returns : tie.Need-returns
+returns c =
+    let put = c .before .before in
+    let cut = put .before .before in
+    let a = cut .before .before .before .args in (
+      put .lay .ensures .0,
+      laid (now (a .text)) (now (a .space)) (a .at) (cut .at-most .result) (cut .at-most .ensures) (put .lay .last .1 .0) (put .lay .ensures .1),
+    )
+
+pub put-text-spec : {M : Type 1} → statement M
+put-text-spec =
+    tie.close
+    (tie.spec
+    at-most-requires
+    sub-lay
+    part-lay-start
+    part-lay-end
+    lay-requires
+    same-length
+    returns)
