@@ -1,4 +1,4 @@
--- The laws of the spelling, about its definitions and those of the reading alone. Read in this order.
+-- The laws of the canonical text, about its definitions and those of the reading alone. Read in this order.
 pub mod Lists
 pub mod Members
 pub mod Order
@@ -7,6 +7,6 @@ pub mod Taken
 pub mod ReadBack
 pub mod NotLonger
 pub mod WriteAnswers
-pub mod Respelling
+pub mod CanonicalOutput
 -- What serves the proofs of code.
 pub mod Puts

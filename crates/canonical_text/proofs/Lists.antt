@@ -13,7 +13,7 @@ use Rattle.model.proofs.Lists.{append-each}
 use Rattle.plan_text.specs.Records.{keyOf, Some, Has}
 use Rattle.plan_text.specs.declared.Record.{Record}
 use Rattle.plan_text.proofs.RecordLists.{some-append, append-left, append-right}
-use Rattle.canonical_text.specs.Spelling.{listTo, valued, entryRecords, textOf}
+use Rattle.canonical_text.specs.CanonicalText.{listTo, valued, entryRecords, textOf}
 use Rattle.canonical_text.specs.Order.{Below, Rising}
 
 -- what is in one of them is in all of them, and the other way round

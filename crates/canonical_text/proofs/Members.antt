@@ -16,10 +16,10 @@ use Rattle.model.proofs.Decide.{decided, decides-le}
 use Rattle.model.proofs.Flat.{stage-cases}
 use Rattle.model.proofs.Lists.{zeros-at}
 use Rattle.plan_text.specs.Records.{sections, Has}
-use Rattle.plan_text.specs.Meaning.{line, C, R, T, S, B, A, K, Says}
+use Rattle.plan_text.specs.Meaning.{line, C, R, T, S, B, A, K, RecordsSay}
 use Rattle.plan_text.specs.declared.Record.{Record}
 use Rattle.plan_text.proofs.Sections.{one-of-seven}
-use Rattle.canonical_text.specs.Spelling.{valued, entryRecords, demandRecords, boundRecords, weightRecords, sectionRecords, planRecords}
+use Rattle.canonical_text.specs.CanonicalText.{valued, entryRecords, demandRecords, boundRecords, weightRecords, sectionRecords, planRecords}
 use Rattle.canonical_text.proofs.Lists.{some-to, to-some, only, valued-found}
 
 -- a record of a value
@@ -184,7 +184,7 @@ module _ (p : Plan) where
             let e = entry-found (λ j w. line n j w 0 0) count xs (line n i v 0 0) here .3 in
             (λ j. at xs (e j .first)) ∙ sym (λ j. e j .second)
 
-    pub plan-says : Says (planRecords p) p
+    pub plan-says : RecordsSay (planRecords p) p
     plan-says =
         record {
           so-far =
@@ -201,8 +201,8 @@ module _ (p : Plan) where
           bounds = λ w v within. says-bound w v (λ e. within);
         }
 
--- and whatever records say a plan have those of its spelling
-pub said-has : (p : Plan) (rs : List Record) → Says rs p → (x : Record) → Has (planRecords p) x → Has rs x
+-- and whatever records say a plan have those of its canonical text
+pub said-has : (p : Plan) (rs : List Record) → RecordsSay rs p → (x : Record) → Has (planRecords p) x → Has rs x
 said-has p rs whole x h =
     let own = own-section p x h in
     let says = whole .so-far in

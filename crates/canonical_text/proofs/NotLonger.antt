@@ -1,4 +1,4 @@
--- The spelling of an accepted text's plan is never longer than that text: each record of the spelling is one of the text's, none is there
+-- The canonical text of an accepted text's plan is never longer than that text: each record of the canonical text is one of the text's, none is there
 -- twice, and a record's line in the text has at least as many bytes, since only leading zeros were left out.
 use Prim.Native.Nat.{ℕ, suc, _+_, _≤_}
 use native.Mathlib.Nat.{zero-add}
@@ -12,20 +12,20 @@ use Rattle.model.specs.Numbers.{InRange, Each}
 use Rattle.model.specs.Questions.{Condition, EachCondition, AllHold, FirstFailure}
 use Rattle.model.proofs.Decide.{Holds, conditions-split, conditions-append}
 use Rattle.model.proofs.Lists.{each-map}
-use Rattle.plan_text.specs.Lines.{Line, lineEnd, tab, splitBy, linesIn, linesOf, isSkipped, parts, letterIn, fieldsIn}
-use Rattle.plan_text.specs.Records.{sections, sectionOf, IsNumber, numberOn, fieldsRead, recordIn, keyOf, Has}
+use Rattle.plan_text.specs.Lines.{Line, lineEnd, tab, splitBy, linesIn, linesOf, isSkipped, columns, letterIn, fieldsIn}
+use Rattle.plan_text.specs.Records.{sections, sectionOf, IsNumeral, valueOn, fieldsRead, recordIn, keyOf, Has}
 use Rattle.plan_text.specs.TextQuestions.{maxText, textNumber, IsRecord, recordsOf, WellFielded, startAfter, lineConditions, linesConditions, lastConditions, textConditions}
 use Rattle.plan_text.specs.Reading.{reading}
 use Rattle.plan_text.specs.declared.Record.{Record}
 use Rattle.plan_text.specs.declared.Reading.{Reading}
-use Rattle.plan_text.proofs.Split.{joined, split-some, split-joined}
+use Rattle.plan_text.proofs.Split.{joinedBy, split-some, split-joined}
 use Rattle.plan_text.proofs.LineForm.{few-fields, numbers-told, numbers-four, number-below, record-in}
 use Rattle.plan_text.proofs.RecordLists.{has-each}
 use Rattle.plan_text.proofs.FirstFailure.{reading-first-failure}
 use Rattle.plan_text.proofs.SamePlan.{accepted-says}
-use Rattle.moves_text.specs.Written.{decimal}
+use Rattle.moves_text.specs.Decimals.{decimal}
 use Rattle.moves_text.proofs.Decimals.{decimal-short}
-use Rattle.canonical_text.specs.Spelling.{planRecords, letterOf, fieldsOf, recordText, textOf, spelling}
+use Rattle.canonical_text.specs.CanonicalText.{planRecords, letterOf, fieldsOf, recordText, textOf, canonicalText}
 use Rattle.canonical_text.specs.Order.{Below, Rising}
 use Rattle.canonical_text.proofs.Members.{said-has}
 use Rattle.canonical_text.proofs.Order.{records-rise, not-below}
@@ -43,7 +43,7 @@ none-refused Ok (c ∷ cs) a refusing z (inr h) = (h .0, none-refused Ok cs a (r
 -- what an accepted text's lines are
 record Taken (l : Line) : Type 0 where
   pub ended : l .ended ≡ true
-  pub section : IsRecord l → InRange (sectionOf (letterIn (parts (l .bytes)))) sections
+  pub section : IsRecord l → InRange (sectionOf (letterIn (columns (l .bytes)))) sections
   pub fielded : IsRecord l → WellFielded l
 
 module _ (text : List ℕ) where
@@ -92,25 +92,25 @@ module _ (text : List ℕ) where
 
 -- parts put together are no longer where the first is not and none of the others is
 joined-short : (s : ℕ) (g : List ℕ → List ℕ) (p q : List ℕ) (fs : List (List ℕ)) → length p ≤ length q → Each (λ (f : List ℕ). length (g f) ≤ length f) fs
-    → length (joined s (p ∷ map g fs)) ≤ length (joined s (q ∷ fs))
+    → length (joinedBy s (p ∷ map g fs)) ≤ length (joinedBy s (q ∷ fs))
 joined-short s g p q [] first h = first
 joined-short s g p q (f ∷ fs) first h =
     omega (
       arith,
       first,
-      length-append p (s ∷ joined s (g f ∷ map g fs)),
-      length-append q (s ∷ joined s (f ∷ fs)),
+      length-append p (s ∷ joinedBy s (g f ∷ map g fs)),
+      length-append q (s ∷ joinedBy s (f ∷ fs)),
       joined-short s g (g f) f fs (h .0) (h .1),
     )
 
 -- a number without leading zeros has no more digits than it was given
 abbrev trimmed : List ℕ → List ℕ
-trimmed f = decimal (numberOn 0 f)
+trimmed f = decimal (valueOn 0 f)
 
-trimmed-short : (f : List ℕ) → IsNumber f → length (trimmed f) ≤ length f
-trimmed-short f h = decimal-short (length f) (numberOn 0 f) (h .0 .0) (rw zero-add at (number-below f 0 0 (h .1) (omega arith)))
+trimmed-short : (f : List ℕ) → IsNumeral f → length (trimmed f) ≤ length f
+trimmed-short f h = decimal-short (length f) (valueOn 0 f) (h .0 .0) (rw zero-add at (number-below f 0 0 (h .1) (omega arith)))
 
-trimmed-each : (fs : List (List ℕ)) → map decimal (map (numberOn 0) fs) ≡ map trimmed fs
+trimmed-each : (fs : List (List ℕ)) → map decimal (map (valueOn 0) fs) ≡ map trimmed fs
 trimmed-each [] = refl
 trimmed-each (f ∷ fs) = rw (trimmed-each fs) refl
 
@@ -126,13 +126,13 @@ first-part (p ∷ ps) some = refl
 
 module _ (l : Line) (taken : Taken l) (is : IsRecord l) where
   abbrev letter : List ℕ
-  letter = letterIn (parts (l .bytes))
+  letter = letterIn (columns (l .bytes))
 
   abbrev fields : List (List ℕ)
-  fields = fieldsIn (parts (l .bytes))
+  fields = fieldsIn (columns (l .bytes))
 
-  line-whole : joined tab (letter ∷ fields) ≡ l .bytes
-  line-whole = ap (joined tab) (first-part (parts (l .bytes)) (split-some tab (l .bytes))) ∙ split-joined tab (l .bytes)
+  line-whole : joinedBy tab (letter ∷ fields) ≡ l .bytes
+  line-whole = ap (joinedBy tab) (first-part (columns (l .bytes)) (split-some tab (l .bytes))) ∙ split-joined tab (l .bytes)
 
   -- the record's fields are those of the line, trimmed
   fields-told : fieldsOf (recordIn (l .bytes)) ≡ map trimmed fields
@@ -150,25 +150,25 @@ module _ (l : Line) (taken : Taken l) (is : IsRecord l) where
       let r = recordIn (l .bytes) in
       let first : length (letterOf r) ≤ length letter = omega (arith, one-letter letter (taken .section is .0)) in
       let short = joined-short tab trimmed (letterOf r) letter fields first (each-map _ _ trimmed-short fields (taken .fielded is .1)) in
-      let line : length (recordText r) ≡ length (joined tab (letterOf r ∷ fieldsOf r)) + 1 =
-      ap length (line-joined (letterOf r) (fieldsOf r)) ∙ length-append (joined tab (letterOf r ∷ fieldsOf r)) (lineEnd ∷ []) in
-      omega (arith, line, ap (λ fs. length (joined tab (letterOf r ∷ fs))) fields-told, short, ap length line-whole)
+      let line : length (recordText r) ≡ length (joinedBy tab (letterOf r ∷ fieldsOf r)) + 1 =
+      ap length (line-joined (letterOf r) (fieldsOf r)) ∙ length-append (joinedBy tab (letterOf r ∷ fieldsOf r)) (lineEnd ∷ []) in
+      omega (arith, line, ap (λ fs. length (joinedBy tab (letterOf r ∷ fs))) fields-told, short, ap length line-whole)
 
--- the records of lines, spelled, are no longer than the lines
+-- the records of lines, written, are no longer than the lines
 record-added : (l : Line) → Taken l → (m : ℕ) (b : Bool) → isSkipped (l .bytes) ≡ b → (rs : List Record) → length (textOf rs) ≤ m
     → length (textOf (cond b rs (recordIn (l .bytes) ∷ rs))) ≤ length (l .bytes) + suc m
 record-added l taken m true e rs h = omega arith
 record-added l taken m false e rs h = omega (arith, length-append (recordText (recordIn (l .bytes))) (textOf rs), record-short l taken e)
 
-lines-short : (ps : List (List ℕ)) → Each Taken (linesIn ps) → length (textOf (recordsOf (linesIn ps))) ≤ length (joined lineEnd ps)
+lines-short : (ps : List (List ℕ)) → Each Taken (linesIn ps) → length (textOf (recordsOf (linesIn ps))) ≤ length (joinedBy lineEnd ps)
 lines-short [] h = omega arith
 lines-short ([] ∷ []) h = omega arith
 lines-short ((b ∷ bs) ∷ []) h = absurd (false≢true (h .0 .ended))
 lines-short (p ∷ q ∷ ps) h =
     omega (
       arith,
-      length-append p (lineEnd ∷ joined lineEnd (q ∷ ps)),
-      record-added (record { bytes = p; ended = true }) (h .0) (length (joined lineEnd (q ∷ ps))) (isSkipped p) refl
+      length-append p (lineEnd ∷ joinedBy lineEnd (q ∷ ps)),
+      record-added (record { bytes = p; ended = true }) (h .0) (length (joinedBy lineEnd (q ∷ ps))) (isSkipped p) refl
           (recordsOf (linesIn (q ∷ ps))) (lines-short (q ∷ ps) (h .1)),
     )
 
@@ -202,9 +202,9 @@ rising-short (q ∷ rs) xs rises has =
     omega (arith, length-append (recordText q) (textOf rs), less .1, rest)
 
 module _ (text : List ℕ) (answered : textNumber (reading text .answer) ≡ 0) where
-  -- the spelling of an accepted text's plan is never longer than that text
-  pub never-longer : length (spelling (reading text .plan)) ≤ length text
-  unfolding spelling
+  -- the canonical text of an accepted text's plan is never longer than that text
+  pub never-longer : length (canonicalText (reading text .plan)) ≤ length text
+  unfolding canonicalText
   never-longer =
       let p = reading text .plan in
       let within = rising-short (planRecords p) (recordsOf (linesOf text)) (records-rise p) (said-has p (recordsOf (linesOf text)) (accepted-says text answered)) in

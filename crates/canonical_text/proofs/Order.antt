@@ -13,7 +13,7 @@ use Rattle.plan_text.specs.Records.{sections, keyOf, Has}
 use Rattle.plan_text.specs.Meaning.{R, T, S, B, A, K}
 use Rattle.plan_text.specs.declared.Record.{Record}
 use Rattle.plan_text.proofs.Sections.{one-of-seven}
-use Rattle.canonical_text.specs.Spelling.{listTo, valued, stageDemands, demandRecords, boundRecords, typeWeights, weightRecords, sectionRecords, planRecords}
+use Rattle.canonical_text.specs.CanonicalText.{listTo, valued, stageDemands, demandRecords, boundRecords, typeWeights, weightRecords, sectionRecords, planRecords}
 use Rattle.canonical_text.specs.Order.{Below, Rising}
 use Rattle.canonical_text.proofs.Lists.{some-to, only, rising-to, one-valued, OneOf, one-to, below-as, values-rise, entries-rise}
 use Rattle.canonical_text.proofs.Members.{in-section}

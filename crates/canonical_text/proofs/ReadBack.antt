@@ -1,4 +1,4 @@
--- What is written is read back: every question of every line of the spelling is met, so the text is accepted, its records say the plan,
+-- What is written is read back: every question of every line of the canonical text is met, so the text is accepted, its records say the plan,
 -- and only that plan.
 use Prim.Native.Nat.{ℕ, _+_, _≤_}
 use native.Mathlib.Omega.{arith}
@@ -15,21 +15,21 @@ use Rattle.model.proofs.Decide.{Holds, conditions-append}
 use Rattle.model.proofs.Lists.{append-each}
 use Rattle.plan_text.specs.Lines.{linesOf}
 use Rattle.plan_text.specs.Records.{Has}
-use Rattle.plan_text.specs.Written.{draftOf}
+use Rattle.plan_text.specs.Draft.{draftOf}
 use Rattle.plan_text.specs.TextQuestions.{maxText, textNumber, recordsOf, startAfter, IsResource, Complete, lineConditions, linesConditions, lastConditions, textConditions, Accepts}
 use Rattle.plan_text.specs.Reading.{accepted, reading}
 use Rattle.plan_text.specs.declared.Reading.{Reading}
-use Rattle.plan_text.specs.Meaning.{T, K, SaysSoFar, Sized}
+use Rattle.plan_text.specs.Meaning.{T, K, RecordsSaySoFar, Sized}
 use Rattle.plan_text.specs.declared.Record.{Record}
 use Rattle.plan_text.proofs.Kept.{Kept}
 use Rattle.plan_text.proofs.KeptAfter.{nothing-kept}
 use Rattle.plan_text.proofs.FirstFailure.{reading-first-failure}
 use Rattle.plan_text.proofs.AcceptedText.{accepted-whole}
 use Rattle.plan_text.proofs.SamePlan.{says-whole}
-use Rattle.canonical_text.specs.Spelling.{planRecords, spelling}
+use Rattle.canonical_text.specs.CanonicalText.{planRecords, canonicalText}
 use Rattle.canonical_text.proofs.Members.{entry-found, own-section, plan-says}
-use Rattle.canonical_text.proofs.RecordText.{Spellable, lineOf, section-told, line-formed, line-fielded, record-back, lines-back, records-back}
-use Rattle.canonical_text.proofs.Taken.{spellable, next}
+use Rattle.canonical_text.proofs.RecordText.{CanonicalFits, recordLine, section-told, line-formed, line-fielded, record-back, lines-back, records-back}
+use Rattle.canonical_text.proofs.Taken.{canonical-fits, next}
 
 -- an answer of which every question is met
 pub all-met : {A : Type 0} (Ok : A → Type 0) (cs : List (Condition A)) (a : A) → AllHold cs → FirstFailure Ok cs a → Ok a
@@ -38,7 +38,7 @@ all-met Ok (c ∷ cs) a hold (inl h) = absurd (h .0 (hold .0))
 all-met Ok (c ∷ cs) a hold (inr h) = all-met Ok cs a (hold .1) (h .1)
 
 module _ (p : Plan) (sound : Sound p) where
-  abbrev says : SaysSoFar (planRecords p) p
+  abbrev says : RecordsSaySoFar (planRecords p) p
   says = plan-says p sound .so-far
 
   -- the records are complete
@@ -75,8 +75,8 @@ module _ (p : Plan) (sound : Sound p) where
 
   -- every question of every line is met
   module _ (text : List ℕ) where
-    line-holds : (rs : List Record) (r : Record) (qs : List Record) (n from : ℕ) → planRecords p ≡ rs ++ r ∷ qs → Kept rs (draftOf rs) → Spellable r
-        → AllHold (lineConditions text rs n from (lineOf r))
+    line-holds : (rs : List Record) (r : Record) (qs : List Record) (n from : ℕ) → planRecords p ≡ rs ++ r ∷ qs → Kept rs (draftOf rs) → CanonicalFits r
+        → AllHold (lineConditions text rs n from (recordLine r))
     line-holds rs r qs n from whole kept s =
         let taken = next p sound rs r qs whole kept in (
           line-formed r s,
@@ -89,52 +89,52 @@ module _ (p : Plan) (sound : Sound p) where
           ),
         )
 
-    hold-from : (qs rs : List Record) → planRecords p ≡ rs ++ qs → Kept rs (draftOf rs) → Each Spellable rs → Each Spellable qs
-        → AllHold (linesConditions text (map lineOf rs) (map lineOf qs))
+    hold-from : (qs rs : List Record) → planRecords p ≡ rs ++ qs → Kept rs (draftOf rs) → Each CanonicalFits rs → Each CanonicalFits qs
+        → AllHold (linesConditions text (map recordLine rs) (map recordLine qs))
     hold-from [] rs whole kept before s = tt
     hold-from (r ∷ qs) rs whole kept before s =
         let rest = hold-from qs (rs ++ r ∷ []) (whole ∙ sym (append-assoc rs (r ∷ []) qs)) (next p sound rs r qs whole kept .after)
-        (append-each Spellable rs (r ∷ []) before (s .0, tt)) (s .1) in
-        let lines = map lineOf rs in
-        conditions-append Holds (lineConditions text (recordsOf lines) (length lines + 1) (startAfter lines) (lineOf r)) (linesConditions text (lines ++ lineOf r ∷ []) (map lineOf qs))
+        (append-each CanonicalFits rs (r ∷ []) before (s .0, tt)) (s .1) in
+        let lines = map recordLine rs in
+        conditions-append Holds (lineConditions text (recordsOf lines) (length lines + 1) (startAfter lines) (recordLine r)) (linesConditions text (lines ++ recordLine r ∷ []) (map recordLine qs))
         (rw (records-back rs before) (line-holds rs r qs (length lines + 1) (startAfter lines) whole kept (s .0)))
         (rw map-append at rest)
 
   -- each line of the text is a record's, with its LF
-  pub written-lines : linesOf (spelling p) ≡ map lineOf (planRecords p)
-  unfolding spelling
-  written-lines = lines-back (planRecords p) (spellable p sound)
+  pub written-lines : linesOf (canonicalText p) ≡ map recordLine (planRecords p)
+  unfolding canonicalText
+  written-lines = lines-back (planRecords p) (canonical-fits p sound)
 
-  pub written-records : recordsOf (linesOf (spelling p)) ≡ planRecords p
-  written-records = ap recordsOf written-lines ∙ records-back (planRecords p) (spellable p sound)
+  pub written-records : recordsOf (linesOf (canonicalText p)) ≡ planRecords p
+  written-records = ap recordsOf written-lines ∙ records-back (planRecords p) (canonical-fits p sound)
 
-  module _ (short : length (spelling p) ≤ maxText) where
-    accepts : Accepts (spelling p) (reading (spelling p))
+  module _ (short : length (canonicalText p) ≤ maxText) where
+    accepts : Accepts (canonicalText p) (reading (canonicalText p))
     accepts =
-        all-met (Accepts (spelling p)) (textConditions (spelling p)) (reading (spelling p)) (
+        all-met (Accepts (canonicalText p)) (textConditions (canonicalText p)) (reading (canonicalText p)) (
           short,
-          conditions-append Holds (linesConditions (spelling p) [] (linesOf (spelling p))) (lastConditions (spelling p) (linesOf (spelling p)))
-              (rw written-lines (hold-from (spelling p) (planRecords p) [] refl nothing-kept tt (spellable p sound))) (rw written-records complete, tt),
+          conditions-append Holds (linesConditions (canonicalText p) [] (linesOf (canonicalText p))) (lastConditions (canonicalText p) (linesOf (canonicalText p)))
+              (rw written-lines (hold-from (canonicalText p) (planRecords p) [] refl nothing-kept tt (canonical-fits p sound))) (rw written-records complete, tt),
         )
-        (reading-first-failure (spelling p))
+        (reading-first-failure (canonicalText p))
 
     -- reading the text of a sound plan answers 0 and gives the same plan
-    written-accepted : textNumber (reading (spelling p) .answer) ≡ 0
+    written-accepted : textNumber (reading (canonicalText p) .answer) ≡ 0
     written-accepted = accepts .says .number
 
-    same-plan : Sized p → reading (spelling p) .plan ≡ p
+    same-plan : Sized p → reading (canonicalText p) .plan ≡ p
     same-plan sized =
-        says-whole (planRecords p) (reading (spelling p) .plan) p (accepts .sized) sized (accepts .sound) sound
-        (subst (λ rs. SaysSoFar rs (reading (spelling p) .plan)) written-records (accepts .plan .so-far)) says
+        says-whole (planRecords p) (reading (canonicalText p) .plan) p (accepts .sized) sized (accepts .sound) sound
+        (subst (λ rs. RecordsSaySoFar rs (reading (canonicalText p) .plan)) written-records (accepts .plan .so-far)) says
 
-    pub written-read : Sized p → reading (spelling p) ≡ accepted p
+    pub written-read : Sized p → reading (canonicalText p) ≡ accepted p
     written-read sized =
-        let handed = accepted-whole (spelling p) written-accepted .handed in
+        let handed = accepted-whole (canonicalText p) written-accepted .handed in
         handed ∙ ap accepted (sym (ap (λ (a : Reading). a .plan) handed) ∙ same-plan sized)
 
 -- two sound plans with the same text are equal, however long it is
-pub same-text-same-plan : (p q : Plan) → Sound p → Sound q → Sized p → Sized q → spelling p ≡ spelling q → p ≡ q
+pub same-text-same-plan : (p q : Plan) → Sound p → Sound q → Sized p → Sized q → canonicalText p ≡ canonicalText q → p ≡ q
 same-text-same-plan p q sound too sized as-sized e =
     let same : planRecords q ≡ planRecords p =
     sym (written-records q too) ∙ ap (λ text. recordsOf (linesOf text)) (sym e) ∙ written-records p sound in
-    says-whole (planRecords p) p q sized as-sized sound too (plan-says p sound .so-far) (subst (λ rs. SaysSoFar rs q) same (plan-says q too .so-far))
+    says-whole (planRecords p) p q sized as-sized sound too (plan-says p sound .so-far) (subst (λ rs. RecordsSaySoFar rs q) same (plan-says q too .so-far))

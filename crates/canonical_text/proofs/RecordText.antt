@@ -11,42 +11,42 @@ use lib.Seq.{length-take-le}
 use lib.ListN.{length-map}
 use Rattle.model.specs.Numbers.{InRange, entry, Each}
 use Rattle.model.proofs.Lists.{append-each, each-map}
-use Rattle.plan_text.specs.Lines.{Line, lineEnd, tab, linesOf, isSkipped, Plain, parts, letterIn, splitBy}
-use Rattle.plan_text.specs.Records.{letters, sections, sectionOf, layoutOf, Digit, IsNumber, numberOn, fieldsRead, recordWith, recordIn, numbersOf}
+use Rattle.plan_text.specs.Lines.{Line, lineEnd, tab, linesOf, isSkipped, Plain, columns, letterIn, splitBy}
+use Rattle.plan_text.specs.Records.{letters, sections, sectionOf, layoutOf, Digit, IsNumeral, valueOn, fieldsRead, recordWith, recordIn, numbersOf}
 use Rattle.plan_text.specs.TextQuestions.{recordsOf, WellFormed, WellFielded}
 use Rattle.plan_text.specs.declared.Record.{Record}
-use Rattle.plan_text.proofs.Split.{joined, split-alone, split-then}
+use Rattle.plan_text.proofs.Split.{joinedBy, split-alone, split-then}
 use Rattle.plan_text.proofs.LineForm.{few-fields, numbers-told, numbers-four, fielded-blank, record-in}
 use Rattle.plan_text.proofs.Sections.{one-of-seven, Blank}
-use Rattle.moves_text.specs.Written.{decimal, lineWith}
-use Rattle.moves_text.proofs.Decimals.{decimal-spells, decimal-short}
+use Rattle.moves_text.specs.Decimals.{decimal, lineWith}
+use Rattle.moves_text.proofs.Decimals.{decimal-is, decimal-short}
 use Rattle.moves_text.proofs.Divided.{lines-then}
-use Rattle.canonical_text.specs.Spelling.{letterOf, fieldsOf, textOf}
+use Rattle.canonical_text.specs.CanonicalText.{letterOf, fieldsOf, textOf}
 
 -- the line without its LF
 abbrev pub lineBytes : Record → List ℕ
-lineBytes r = joined tab (letterOf r ∷ fieldsOf r)
+lineBytes r = joinedBy tab (letterOf r ∷ fieldsOf r)
 
-abbrev pub lineOf : Record → Line
-lineOf r = record { bytes = lineBytes r; ended = true }
+abbrev pub recordLine : Record → Line
+recordLine r = record { bytes = lineBytes r; ended = true }
 
-pub line-joined : (f : List ℕ) (fs : List (List ℕ)) → lineWith (f ∷ fs) ≡ joined tab (f ∷ fs) ++ lineEnd ∷ []
+pub line-joined : (f : List ℕ) (fs : List (List ℕ)) → lineWith (f ∷ fs) ≡ joinedBy tab (f ∷ fs) ++ lineEnd ∷ []
 line-joined f [] = refl
 line-joined f (g ∷ fs) = rw (line-joined g fs, append-assoc) refl
 
 -- what holds of each byte of the parts, and of what is put between them
-each-joined : (P : ℕ → Type 0) (s : ℕ) → P s → (ps : List (List ℕ)) → Each (Each P) ps → Each P (joined s ps)
+each-joined : (P : ℕ → Type 0) (s : ℕ) → P s → (ps : List (List ℕ)) → Each (Each P) ps → Each P (joinedBy s ps)
 each-joined P s between [] h = tt
 each-joined P s between (p ∷ []) h = h .0
-each-joined P s between (p ∷ q ∷ ps) h = append-each P p (s ∷ joined s (q ∷ ps)) (h .0) (between, each-joined P s between (q ∷ ps) (h .1))
+each-joined P s between (p ∷ q ∷ ps) h = append-each P p (s ∷ joinedBy s (q ∷ ps)) (h .0) (between, each-joined P s between (q ∷ ps) (h .1))
 
 -- parts without separators, put together, are those parts
-joined-split : (s : ℕ) (p : List ℕ) (ps : List (List ℕ)) → Each (Each (λ (c : ℕ). c ≢ s)) (p ∷ ps) → splitBy s (joined s (p ∷ ps)) ≡ p ∷ ps
+joined-split : (s : ℕ) (p : List ℕ) (ps : List (List ℕ)) → Each (Each (λ (c : ℕ). c ≢ s)) (p ∷ ps) → splitBy s (joinedBy s (p ∷ ps)) ≡ p ∷ ps
 joined-split s p [] h = split-alone s p (h .0)
-joined-split s p (q ∷ ps) h = split-then s p (joined s (q ∷ ps)) (h .0) ∙ rw (joined-split s q ps (h .1)) refl
+joined-split s p (q ∷ ps) h = split-then s p (joinedBy s (q ∷ ps)) (h .0) ∙ rw (joined-split s q ps (h .1)) refl
 
 -- a record that a line can say: of a section, with zeros where that has no field, and numbers of at most five digits
-pub record Spellable (r : Record) : Type 0 where
+pub record CanonicalFits (r : Record) : Type 0 where
   pub section : InRange (r .section) sections
   pub blank : Blank r
   pub short : Each (λ (n : ℕ). n < 100000) (take (length (layoutOf (r .section))) (numbersOf r))
@@ -70,16 +70,16 @@ letter-told =
 -- what holds of all digits holds of each field's bytes
 digits-each : (P : ℕ → Type 0) → ((b : ℕ) → Digit b → P b) → (xs : List ℕ) → Each (Each P) (map decimal xs)
 digits-each P f [] = tt
-digits-each P f (x ∷ xs) = (each-map Digit P f (decimal x) (decimal-spells x .1), digits-each P f xs)
+digits-each P f (x ∷ xs) = (each-map Digit P f (decimal x) (decimal-is x .1), digits-each P f xs)
 
-numbers-each : (xs : List ℕ) → Each (λ (n : ℕ). n < 100000) xs → Each IsNumber (map decimal xs)
+numbers-each : (xs : List ℕ) → Each (λ (n : ℕ). n < 100000) xs → Each IsNumeral (map decimal xs)
 numbers-each [] h = tt
 numbers-each (x ∷ xs) h =
-    let s = decimal-spells x in (((s .0, decimal-short 5 x (omega arith) (omega (arith, h .0))), s .1), numbers-each xs (h .1))
+    let s = decimal-is x in (((s .0, decimal-short 5 x (omega arith) (omega (arith, h .0))), s .1), numbers-each xs (h .1))
 
-numbers-back : (xs : List ℕ) → map (numberOn 0) (map decimal xs) ≡ xs
+numbers-back : (xs : List ℕ) → map (valueOn 0) (map decimal xs) ≡ xs
 numbers-back [] = refl
-numbers-back (x ∷ xs) = rw (decimal-spells x .2, numbers-back xs) refl
+numbers-back (x ∷ xs) = rw (decimal-is x .2, numbers-back xs) refl
 
 -- lists of the same size that are the same at first and 0 after that
 zeros-same : (xs ys : List ℕ) → length xs ≡ length ys → Each (λ (x : ℕ). x ≡ 0) xs → Each (λ (x : ℕ). x ≡ 0) ys → xs ≡ ys
@@ -97,7 +97,7 @@ first-same m xs ys size e h k =
 same-record : (q r : Record) → q .section ≡ r .section → numbersOf q ≡ numbersOf r → q ≡ r
 same-record q r e f = λ i. record { section = e i; first = getD (f i) 0 0; second = getD (f i) 1 0; third = getD (f i) 2 0; fourth = getD (f i) 3 0 }
 
-module _ (r : Record) (s : Spellable r) where
+module _ (r : Record) (s : CanonicalFits r) where
   abbrev letter : IsLetter (r .section)
   letter = letter-told (r .section) (s .section)
 
@@ -118,29 +118,29 @@ module _ (r : Record) (s : Spellable r) where
       each-joined (λ c. c ≢ lineEnd) tab (λ e. omega arith) (letterOf r ∷ fieldsOf r)
       (part-each (λ c. c ≢ lineEnd) (λ e. omega (arith, letter .plain)) (λ b h e. omega (arith, h)))
 
-  line-parts : parts (lineBytes r) ≡ letterOf r ∷ fieldsOf r
+  line-parts : columns (lineBytes r) ≡ letterOf r ∷ fieldsOf r
   line-parts =
       joined-split tab (letterOf r) (fieldsOf r)
       (part-each (λ c. c ≢ tab) (λ e. omega (arith, letter .plain)) (λ b h e. omega (arith, h)))
 
   -- it is a record's line
-  not-skipped : (b : ℕ) (fs : List (List ℕ)) → isSkipped (b ∷ []) ≡ false → isSkipped (joined tab ((b ∷ []) ∷ fs)) ≡ false
+  not-skipped : (b : ℕ) (fs : List (List ℕ)) → isSkipped (b ∷ []) ≡ false → isSkipped (joinedBy tab ((b ∷ []) ∷ fs)) ≡ false
   not-skipped b [] h = h
   not-skipped b (f ∷ fs) h = h
 
   pub is-record : isSkipped (lineBytes r) ≡ false
   is-record = not-skipped (entry letters (r .section) 0) (fieldsOf r) (letter .record-line)
 
-  fields-numbers : Each IsNumber (fieldsOf r)
+  fields-numbers : Each IsNumeral (fieldsOf r)
   fields-numbers = numbers-each (take count (numbersOf r)) (s .short)
 
-  pub section-told : sectionOf (letterIn (parts (lineBytes r))) ≡ r .section
+  pub section-told : sectionOf (letterIn (columns (lineBytes r))) ≡ r .section
   section-told = rw line-parts (letter .own)
 
-  pub line-formed : WellFormed (lineOf r)
+  pub line-formed : WellFormed (recordLine r)
   line-formed = (refl, bytes-plain)
 
-  pub line-fielded : WellFielded (lineOf r)
+  pub line-fielded : WellFielded (recordLine r)
   line-fielded = rw (section-told, line-parts) (fields-counted, fields-numbers)
 
   -- the numbers of the fields
@@ -164,12 +164,12 @@ module _ (r : Record) (s : Spellable r) where
       (same-record (recordWith (r .section) read) r refl (fours ∙ first-same count read (numbersOf r) size read-first blank (s .blank)))
 
 -- the lines and the records of what was written
-pub lines-back : (rs : List Record) → Each Spellable rs → linesOf (textOf rs) ≡ map lineOf rs
+pub lines-back : (rs : List Record) → Each CanonicalFits rs → linesOf (textOf rs) ≡ map recordLine rs
 lines-back [] h = refl
 lines-back (r ∷ rs) h =
     let line : textOf (r ∷ rs) ≡ lineBytes r ++ lineEnd ∷ textOf rs = rw (line-joined (letterOf r) (fieldsOf r), append-assoc) refl in
     rw line (lines-then (lineBytes r) (textOf rs) (bytes-clean r (h .0)) ∙ rw (lines-back rs (h .1)) refl)
 
-pub records-back : (rs : List Record) → Each Spellable rs → recordsOf (map lineOf rs) ≡ rs
+pub records-back : (rs : List Record) → Each CanonicalFits rs → recordsOf (map recordLine rs) ≡ rs
 records-back [] h = refl
 records-back (r ∷ rs) h = rw (is-record r (h .0), record-back r (h .0), records-back rs (h .1)) refl

@@ -17,8 +17,8 @@ use Rattle.model.proofs.Decide.{decided, holds, passes, decides-eq}
 use Rattle.model.proofs.Lists.{each-map}
 use Rattle.model.proofs.Sums.{sum-mono}
 use Rattle.plan_text.specs.Records.{sections, layoutOf, Known, knownOf, numbersOf, keyOf, Has}
-use Rattle.plan_text.specs.ReaderParts.{InKnown}
-use Rattle.plan_text.specs.Written.{Draft, emptyDraft, put, draftOf, written, heldIn}
+use Rattle.plan_text.specs.ReaderInternals.{InKnown}
+use Rattle.plan_text.specs.Draft.{Draft, emptyDraft, put, draftOf, draftAfter, heldIn}
 use Rattle.plan_text.specs.TextQuestions.{lastSection, Follows, InRanges, FirstWithKey, WithinTotal}
 use Rattle.plan_text.specs.Reading.{withinTotal}
 use Rattle.plan_text.specs.Meaning.{line, C, R, T, K}
@@ -30,12 +30,12 @@ use Rattle.plan_text.proofs.KeptAfter.{kept-after}
 use Rattle.plan_text.proofs.RecordQuestions.{ranges-told, decides-first, decides-total}
 use Rattle.plan_text.proofs.FirstFailure.{draft-more}
 use Rattle.plan_text.proofs.SamePlan.{told}
-use Rattle.canonical_text.specs.Spelling.{entryRecords, sectionRecords, planRecords}
+use Rattle.canonical_text.specs.CanonicalText.{entryRecords, sectionRecords, planRecords}
 use Rattle.canonical_text.specs.Order.{Below, Rising}
 use Rattle.canonical_text.proofs.Lists.{only, each-has}
 use Rattle.canonical_text.proofs.Members.{entry-found, demand-found, bound-found, weight-found, own-section, plan-says}
 use Rattle.canonical_text.proofs.Order.{records-rise, not-below, below-section, rising-split}
-use Rattle.canonical_text.proofs.RecordText.{Spellable}
+use Rattle.canonical_text.proofs.RecordText.{CanonicalFits}
 
 -- what is known of the plan before a record of section n
 pub record Knows (p : Plan) (n : ℕ) (k : Known) : Type 0 where
@@ -152,9 +152,9 @@ module _ (p : Plan) (sound : Sound p) where
         let own = own-section p x h in
         one-of-seven FitsIn counts-fit capacity-fits length-fits demand-fits bound-fits weight-fits rank-fits (x .section) (own .0) (own .1)
 
-  pub spellable : Each Spellable (planRecords p)
-  spellable =
-      each-has Spellable (planRecords p)
+  pub canonical-fits : Each CanonicalFits (planRecords p)
+  canonical-fits =
+      each-has CanonicalFits (planRecords p)
       (λ x h.
       let fits = record-fits x (knownOf p) h (record { counts = λ l. (refl, refl, refl); capacities = λ l i. refl; lengths = λ l t. refl }) in
       record { section = own-section p x h .0; blank = fits .1; short = fits .2 })
@@ -266,7 +266,7 @@ module _ (p : Plan) (sound : Sound p) where
             ⊎-elim (λ (e : r .section ≡ 3). rw (eq-eqb (r .section) 3 e) (le-leb _ maxAllStages (stages-within e)))
             (λ (ne : ¬ (r .section ≡ 3)). rw (ne-eqb (r .section) 3 ne) refl) (decided (decides-eq (r .section) 3))
 
-    one-more : draftOf (rs ++ r ∷ []) ≡ written d r
+    one-more : draftOf (rs ++ r ∷ []) ≡ draftAfter d r
     one-more = draft-more emptyDraft rs (r ∷ [])
 
     pub record Next : Type 0 where

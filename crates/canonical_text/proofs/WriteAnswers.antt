@@ -13,56 +13,56 @@ use Rattle.model.specs.declared.Plan.{Plan}
 use Rattle.model.proofs.Decide.{Decides, holding, failing, decides-le, _and_}
 use Rattle.model.proofs.Soundness.{decides-sound}
 use Rattle.plan_text.specs.TextQuestions.{maxText}
-use Rattle.canonical_text.specs.Spelling.{spelling}
-use Rattle.canonical_text.specs.Writing.{Outcome, Writes, writeConditions, hasRoom, isWritten, writing, spaceAfter, outcome}
+use Rattle.canonical_text.specs.CanonicalText.{canonicalText}
+use Rattle.canonical_text.specs.Writing.{WriteOutcome, WritesPlan, writeConditions, hasRoom, isWritten, writing, bufferAfter, writeOutcome}
 use Rattle.canonical_text.specs.declared.WriteAnswer.{WriteAnswer}
 use Rattle.canonical_text.specs.declared.WriteAnswer.the-variants.{Written, UnsoundPlan, NoRoom}
 
-module _ (p : Plan) (space : List ℕ) where
+module _ (p : Plan) (buffer : List ℕ) where
   abbrev size : ℕ
-  size = length (spelling p)
+  size = length (canonicalText p)
 
   -- the outcome by what its two tests say
   abbrev answerBy : Bool → Bool → WriteAnswer
   answerBy a b = cond a (cond b Written NoRoom) UnsoundPlan
 
-  abbrev outcomeBy : Bool → Bool → Outcome
+  abbrev outcomeBy : Bool → Bool → WriteOutcome
   outcomeBy a b =
       record {
         writing = record { answer = answerBy a b; length = cond (isWritten (answerBy a b)) size 0 };
-        space = cond (isWritten (answerBy a b)) (spelling p ++ drop size space) space;
+        buffer = cond (isWritten (answerBy a b)) (canonicalText p ++ drop size buffer) buffer;
       }
 
-  pub writing-first-failure : FirstFailure (Writes p space) (writeConditions p space) (outcome p space)
-  unfolding writing spaceAfter
-  writing-first-failure = go (decides-sound p) (decides-le size (length space) and decides-le size maxText)
+  pub writing-first-failure : FirstFailure (WritesPlan p buffer) (writeConditions p buffer) (writeOutcome p buffer)
+  unfolding writing bufferAfter
+  writing-first-failure = go (decides-sound p) (decides-le size (length buffer) and decides-le size maxText)
     where
-      go : {a b : Bool} → Decides (Sound p) a → Decides ((size ≤ length space) × (size ≤ maxText)) b
-          → FirstFailure (Writes p space) (writeConditions p space) (outcomeBy a b)
-      go (failing unsound) room = inl (unsound, record { number = refl; length = refl; space = refl })
-      go (holding s) (failing long) = inr (s, inl (long, record { number = refl; length = refl; space = refl }))
-      go (holding s) (holding fits) = inr (s, inr (fits, record { number = refl; length = refl; space = refl }))
+      go : {a b : Bool} → Decides (Sound p) a → Decides ((size ≤ length buffer) × (size ≤ maxText)) b
+          → FirstFailure (WritesPlan p buffer) (writeConditions p buffer) (outcomeBy a b)
+      go (failing unsound) room = inl (unsound, record { number = refl; length = refl; buffer = refl })
+      go (holding s) (failing long) = inr (s, inl (long, record { number = refl; length = refl; buffer = refl }))
+      go (holding s) (holding fits) = inr (s, inr (fits, record { number = refl; length = refl; buffer = refl }))
 
   -- the same for code, by the tests
-  pub unsound-refused : sound p ≡ false → (record { answer = UnsoundPlan; length = 0 } ≡ writing p space) × (space ≡ spaceAfter p space)
-  unfolding writing spaceAfter
+  pub unsound-refused : sound p ≡ false → (record { answer = UnsoundPlan; length = 0 } ≡ writing p buffer) × (buffer ≡ bufferAfter p buffer)
+  unfolding writing bufferAfter
   unsound-refused e = (rw e refl, rw e refl)
 
-  pub long-refused : sound p ≡ true → hasRoom size (length space) ≡ false → (record { answer = NoRoom; length = 0 } ≡ writing p space) × (space ≡ spaceAfter p space)
-  unfolding writing spaceAfter
+  pub long-refused : sound p ≡ true → hasRoom size (length buffer) ≡ false → (record { answer = NoRoom; length = 0 } ≡ writing p buffer) × (buffer ≡ bufferAfter p buffer)
+  unfolding writing bufferAfter
   long-refused e f = (rw (e, f) refl, rw (e, f) refl)
 
-  pub all-written : sound p ≡ true → hasRoom size (length space) ≡ true
-      → (record { answer = Written; length = size } ≡ writing p space) × (spelling p ++ drop size space ≡ spaceAfter p space)
-  unfolding writing spaceAfter
+  pub all-written : sound p ≡ true → hasRoom size (length buffer) ≡ true
+      → (record { answer = Written; length = size } ≡ writing p buffer) × (canonicalText p ++ drop size buffer ≡ bufferAfter p buffer)
+  unfolding writing bufferAfter
   all-written e f = (rw (e, f) refl, rw (e, f) refl)
 
   -- what is written has at most 65,536 bytes
-  pub writing-short : writing p space .length ≤ maxText
+  pub writing-short : writing p buffer .length ≤ maxText
   unfolding writing
-  writing-short = go (sound p) (decides-le size (length space) and decides-le size maxText)
+  writing-short = go (sound p) (decides-le size (length buffer) and decides-le size maxText)
     where
-      go : (a : Bool) {b : Bool} → Decides ((size ≤ length space) × (size ≤ maxText)) b → outcomeBy a b .writing .length ≤ maxText
+      go : (a : Bool) {b : Bool} → Decides ((size ≤ length buffer) × (size ≤ maxText)) b → outcomeBy a b .writing .length ≤ maxText
       go false room = omega arith
       go true (failing long) = omega arith
       go true (holding fits) = fits .1

@@ -1,4 +1,4 @@
-// The one spelling of a plan, and what writing it answers, as values. What they mean is defined in specs/, and nothing runs here.
+// The canonical form of a plan, and what writing it answers, as values. What they mean is defined in specs/, and nothing runs here.
 
 // What the writer answers; its numbers are `writeNumber` of specs/Writing.
 pub enum WriteAnswer {

@@ -19,8 +19,8 @@ says-small c number first second says small low =
     let e2 : checkNumbers c .2 ≡ second = ap (λ (x : ℕ × ℕ × ℕ). x .2) says in
     (omega arith, omega arith)
 
-pub check-small : (p : Plan) → Small (check p)
-check-small p = asked (check-first-failure p)
+pub check-packed-small : (p : Plan) → Small (check p)
+check-packed-small p = asked (check-first-failure p)
   where
     asked : FirstFailure (CheckSays 0 0 0) (checkConditions p) (check p) → Small (check p)
     asked (inl f) = says-small (check p) 11 0 0 (f .1) (omega arith) (omega arith)

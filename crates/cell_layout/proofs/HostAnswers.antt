@@ -9,10 +9,10 @@ use Rattle.model.specs.Upstream.{check}
 use Rattle.events.specs.Events.{isAdmitted, listAfter}
 use Rattle.events.specs.declared.Event.{Event}
 use Rattle.events.specs.declared.Answer.the-variants.{Admitted}
-use Rattle.canonical_text.specs.Writing.{writing, spaceAfter}
+use Rattle.canonical_text.specs.Writing.{writing, bufferAfter}
 use Rattle.cell_layout.specs.Layout.{cellSize, planIn, listIn, withPlan, withList}
 use Rattle.cell_layout.specs.HostAnswers.{packedCheck, packedAnswer, packedDrain, cellAnswer, cellDrain, noCell, readAnswer, readCell, checkAnswer}
-use Rattle.cell_layout.specs.HostAnswers.{packedWriting, writeAnswer, writtenSpace, eventAnswer, eventCell, drainAnswer, drainCell}
+use Rattle.cell_layout.specs.HostAnswers.{packedWriting, writeAnswer, writtenBuffer, eventAnswer, eventCell, drainAnswer, drainCell}
 use Rattle.cell_layout.proofs.Cells.{is-cell, no-cell}
 
 -- too few bytes
@@ -21,9 +21,9 @@ module _ (bytes : List ℕ) (h : length bytes < cellSize) where
   unfolding readAnswer readCell withPlan
   no-read text = (rw (no-cell bytes h) refl, rw (no-cell bytes h) refl)
 
-  pub no-write : (space : List ℕ) → (noCell ≡ writeAnswer bytes space) × (space ≡ writtenSpace bytes space)
-  unfolding writeAnswer writtenSpace
-  no-write space = (rw (no-cell bytes h) refl, rw (no-cell bytes h) refl)
+  pub no-write : (buffer : List ℕ) → (noCell ≡ writeAnswer bytes buffer) × (buffer ≡ writtenBuffer bytes buffer)
+  unfolding writeAnswer writtenBuffer
+  no-write buffer = (rw (no-cell bytes h) refl, rw (no-cell bytes h) refl)
 
   pub no-check : noCell ≡ checkAnswer bytes
   unfolding checkAnswer
@@ -39,10 +39,10 @@ module _ (bytes : List ℕ) (h : length bytes < cellSize) where
 
 -- enough of them
 module _ (bytes : List ℕ) (h : cellSize ≤ length bytes) where
-  pub plan-written : (space : List ℕ)
-      → (packedWriting (writing (planIn bytes) space) ≡ writeAnswer bytes space) × (spaceAfter (planIn bytes) space ≡ writtenSpace bytes space)
-  unfolding writeAnswer writtenSpace
-  plan-written space = (rw (is-cell bytes h) refl, rw (is-cell bytes h) refl)
+  pub plan-written : (buffer : List ℕ)
+      → (packedWriting (writing (planIn bytes) buffer) ≡ writeAnswer bytes buffer) × (bufferAfter (planIn bytes) buffer ≡ writtenBuffer bytes buffer)
+  unfolding writeAnswer writtenBuffer
+  plan-written buffer = (rw (is-cell bytes h) refl, rw (is-cell bytes h) refl)
 
   pub checked : packedCheck (check (planIn bytes)) ≡ checkAnswer bytes
   unfolding checkAnswer

@@ -37,7 +37,7 @@ use Rattle.emptying.specs.Emptying.{start, EmptyingRule}
 use Rattle.emptying.proofs.Emptying.{emptying-passed}
 use Rattle.cell_layout.specs.Layout.{cellSize, planIn, listIn, withList}
 use Rattle.cell_layout.specs.Fitting.{JobFits, ListFits}
-use Rattle.cell_layout.specs.HostAnswers.{packed, packedCheck, packedAnswer, cellAnswer, cellDrain, eventAnswer, eventCell, drainCell, cellAfterAll, eventAnswers, zeros}
+use Rattle.cell_layout.specs.HostAnswers.{packed, packedCheck, packedAnswer, cellAnswer, cellDrain, eventAnswer, eventCell, drainCell, cellAfterAll, eventAnswers, admittedAnswers}
 use Rattle.cell_layout.specs.HostRule.{HostRule, HostTheorem}
 use Rattle.cell_layout.proofs.HostAnswers.{no-check, checked, event-answered, event-refused, event-admitted, drain-still, drain-moved}
 use Rattle.cell_layout.proofs.ReadBack.{list-room, plan-kept, list-back}
@@ -61,30 +61,30 @@ agreeing-fits p t sound h = record { count = omega (arith, h .few); slots = h .s
     both = append-each JobFits (jobsOf t) (replicate (maxJobs - length (jobsOf t)) noJob) held (none-fit (maxJobs - length (jobsOf t)))
 
 -- one event: the plan stays, and the list is the one that the event leads to
-pub record Follows (bytes next : List ℕ) (list : JobList) : Type 0 where
+pub record CellFollows (bytes next : List ℕ) (list : JobList) : Type 0 where
   pub room : length next ≡ length bytes
   pub plan : planIn next ≡ planIn bytes
   pub left : listIn next ≡ list
 
-written : (bytes : List ℕ) → cellSize ≤ length bytes → (l : JobList) → ListFits l → Follows bytes (withList l bytes) l
-written bytes h l fits = record { room = list-room bytes h l; plan = plan-kept bytes h l; left = list-back bytes h l fits }
+cell-follows : (bytes : List ℕ) → cellSize ≤ length bytes → (l : JobList) → ListFits l → CellFollows bytes (withList l bytes) l
+cell-follows bytes h l fits = record { room = list-room bytes h l; plan = plan-kept bytes h l; left = list-back bytes h l fits }
 
 module _ (bytes : List ℕ) (h : cellSize ≤ length bytes) (e : Event) where
   abbrev list : JobList
   list = listAfter (planIn bytes) (listIn bytes) e
 
-  pub event-follows : Follows bytes (eventCell bytes e) list
+  pub event-follows : CellFollows bytes (eventCell bytes e) list
   event-follows = ⊎-elim admitted refused (admitted-or-not (cellAnswer bytes e))
     where
-      admitted : cellAnswer bytes e ≡ Admitted → Follows bytes (eventCell bytes e) list
+      admitted : cellAnswer bytes e ≡ Admitted → CellFollows bytes (eventCell bytes e) list
       admitted a =
           let c = admitted-holds (planIn bytes) (listIn bytes) e a in
           let fits = agreeing-fits (planIn bytes) list (c .0) (agrees-after (planIn bytes) (listIn bytes) e (c .0) (c .1 .0)) in
-          subst (λ next. Follows bytes next list) (event-admitted bytes h e a .1) (written bytes h list fits)
+          subst (λ next. CellFollows bytes next list) (event-admitted bytes h e a .1) (cell-follows bytes h list fits)
 
-      refused : isAdmitted (cellAnswer bytes e) ≡ false → Follows bytes (eventCell bytes e) list
+      refused : isAdmitted (cellAnswer bytes e) ≡ false → CellFollows bytes (eventCell bytes e) list
       refused r =
-          subst (λ next. Follows bytes next list) (event-refused bytes h e r .1)
+          subst (λ next. CellFollows bytes next list) (event-refused bytes h e r .1)
           (record { room = refl; plan = refl; left = sym (list-refused (planIn bytes) (listIn bytes) e r) })
 
 -- a drain: its moves keep agreement, so the list that it ends with fits
@@ -96,7 +96,7 @@ none-made : (p : Plan) {t u : JobList} {n : ℕ} → Moves p t n u → n ≤ 0 �
 none-made p stay h = refl
 none-made p (move e first rest) h = absurd (omega arith)
 
-pub drain-follows : (bytes : List ℕ) → cellSize ≤ length bytes → (budget : ℕ) → Follows bytes (drainCell bytes budget) (cellDrain bytes budget .list)
+pub drain-follows : (bytes : List ℕ) → cellSize ≤ length bytes → (budget : ℕ) → CellFollows bytes (drainCell bytes budget) (cellDrain bytes budget .list)
 drain-follows bytes h budget = ⊎-elim moved still (decided (decides-le 1 (d .moves)))
   where
     d : ListDrained
@@ -105,21 +105,21 @@ drain-follows bytes h budget = ⊎-elim moved still (decided (decides-le 1 (d .m
     rule : DrainRule (planIn bytes) (listIn bytes) budget d
     rule = drain-rule (planIn bytes) (listIn bytes) budget
 
-    moved : 1 ≤ d .moves → Follows bytes (drainCell bytes budget) (d .list)
+    moved : 1 ≤ d .moves → CellFollows bytes (drainCell bytes budget) (d .list)
     moved some =
         let sound = ⊎-elim (λ s. s) (λ no. absurd (omega (arith, rule .unmoved (inl no) .0))) (decided (decides-sound (planIn bytes))) in
         let agrees = ⊎-elim (λ s. s) (λ no. absurd (omega (arith, rule .unmoved (inr no) .0))) (decided (decides-agrees (planIn bytes) (listIn bytes))) in
         let fits = agreeing-fits (planIn bytes) (d .list) sound (moves-agree (planIn bytes) sound (rule .moves) agrees) in
-        subst (λ next. Follows bytes next (d .list)) (drain-moved bytes h budget some .1) (written bytes h (d .list) fits)
+        subst (λ next. CellFollows bytes next (d .list)) (drain-moved bytes h budget some .1) (cell-follows bytes h (d .list) fits)
 
-    still : ¬ (1 ≤ d .moves) → Follows bytes (drainCell bytes budget) (d .list)
+    still : ¬ (1 ≤ d .moves) → CellFollows bytes (drainCell bytes budget) (d .list)
     still none =
-        subst (λ next. Follows bytes next (d .list)) (drain-still bytes h budget (omega arith) .1)
+        subst (λ next. CellFollows bytes next (d .list)) (drain-still bytes h budget (omega arith) .1)
         (record { room = refl; plan = refl; left = none-made (planIn bytes) (rule .moves) (omega arith) })
 
 -- a whole list of them
 pub events-follow : (bytes : List ℕ) → cellSize ≤ length bytes → (es : List Event)
-    → Follows bytes (cellAfterAll bytes es) (listAfterAll (planIn bytes) (listIn bytes) es)
+    → CellFollows bytes (cellAfterAll bytes es) (listAfterAll (planIn bytes) (listIn bytes) es)
 events-follow bytes h [] = record { room = refl; plan = refl; left = refl }
 events-follow bytes h (e ∷ es) =
     let one = event-follows bytes h e in
@@ -148,13 +148,13 @@ zero-admitted (OverCapacity r) = packed-zero 18 r (omega arith)
 zero-admitted (RowBroken w) = packed-zero 19 w (omega arith)
 
 pub zeros-admitted : (bytes : List ℕ) → cellSize ≤ length bytes → (es : List Event)
-    → zeros (eventAnswers bytes es) ≡ admittedCount (answers (planIn bytes) (listIn bytes) es)
+    → admittedAnswers (eventAnswers bytes es) ≡ admittedCount (answers (planIn bytes) (listIn bytes) es)
 zeros-admitted bytes h [] = refl
 zeros-admitted bytes h (e ∷ es) =
     let one = event-follows bytes h e in
     let first : eqb (eventAnswer bytes e) 0 ≡ isAdmitted (cellAnswer bytes e) = ap (λ n. eqb n 0) (event-answered bytes h e) ∙ zero-admitted (cellAnswer bytes e) in
     let rest = zeros-admitted (eventCell bytes e) (omega (arith, one .room)) es in
-    ap (λ b. cond b 1 0 + zeros (eventAnswers (eventCell bytes e) es)) first
+    ap (λ b. cond b 1 0 + admittedAnswers (eventAnswers (eventCell bytes e) es)) first
     ∙ ap (λ k. cond (isAdmitted (cellAnswer bytes e)) 1 0 + k)
     (rest
     ∙ ap (λ q. admittedCount (answers q (listIn (eventCell bytes e)) es)) (one .plan)

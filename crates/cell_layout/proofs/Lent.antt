@@ -12,9 +12,9 @@ use Rattle.model.specs.Limits.{maxAllStages}
 use Rattle.plan_bytes.specs.Over.{entriesIn, stageIn, stageSize, stageBytes, stagesSize, wholeStages, planRead, planOver}
 use Rattle.plan_bytes.specs.declared.Frame.{Frame}
 use Rattle.plan_bytes.proofs.Over.{over-whole}
-use Rattle.moves_text.specs.Space.{overlaidAt}
+use Rattle.moves_text.specs.Buffer.{overlaidAt}
 use Rattle.moves_text.proofs.Overlays.{none-laid}
-use Rattle.cell_layout.specs.Layout.{joined, cellSize, stagesPart, offsetOf, partIn, withPart, frameLaid, frameIn, planLaid, planIn}
+use Rattle.cell_layout.specs.Layout.{bytesOfEach, cellSize, stagesPart, offsetOf, partIn, withPart, frameLaid, frameIn, planLaid, planIn}
 use Rattle.cell_layout.proofs.Cells.{is-cell}
 use Rattle.cell_layout.proofs.Parts.{part-long, put-into}
 
@@ -28,7 +28,7 @@ lent-in bytes h e = ap (λ g. planOver g (partIn stagesPart bytes)) e ∙ sym (c
 
 -- entries that are written as they were read
 module _ {A : Type 0} (read : List ℕ → A) (write : A → List ℕ) (size : ℕ) (same : (bs : List ℕ) → length bs ≤ size → write (read bs) ≡ bs) where
-  joined-entries : (n : ℕ) (bytes : List ℕ) → joined write (entriesIn read size n bytes) ≡ take (size * n) bytes
+  joined-entries : (n : ℕ) (bytes : List ℕ) → bytesOfEach write (entriesIn read size n bytes) ≡ take (size * n) bytes
   joined-entries zero bytes = rw mul-zero refl
   joined-entries (suc n) bytes =
       let more : size * suc n ≡ size + size * n = mul-suc size n ∙ add-comm (size * n) size in
@@ -39,17 +39,17 @@ stage-same bs h = rw (take-all 32 (drop 32 bs) (omega (arith, length-drop 32 bs)
 
 -- what is put into the part of the stages: the bytes lent if they are those of all stages, and else nothing
 module _ (f : Frame) (lent : List ℕ) where
-  joined-lent : joined stageBytes (planOver f lent .stages) ≡ take stagesSize (wholeStages lent)
+  joined-lent : bytesOfEach stageBytes (planOver f lent .stages) ≡ take stagesSize (wholeStages lent)
   unfolding planOver planRead
   joined-lent = joined-entries stageIn stageBytes stageSize stage-same maxAllStages (wholeStages lent)
 
   pub stages-put : {now next old : List ℕ} → length lent ≡ stagesSize → next ≡ overlaidAt (offsetOf stagesPart) lent now → now ≡ old
-      → next ≡ withPart stagesPart (joined stageBytes (planOver f lent .stages)) old
+      → next ≡ withPart stagesPart (bytesOfEach stageBytes (planOver f lent .stages)) old
   stages-put {old = old} whole put same =
-      let all : joined stageBytes (planOver f lent .stages) ≡ lent = joined-lent ∙ rw (eq-eqb (length lent) stagesSize whole) (take-all stagesSize lent (omega arith)) in
+      let all : bytesOfEach stageBytes (planOver f lent .stages) ≡ lent = joined-lent ∙ rw (eq-eqb (length lent) stagesSize whole) (take-all stagesSize lent (omega arith)) in
       rw all (put-into stagesPart lent whole put same)
 
-  pub no-stages-put : length lent ≢ stagesSize → (bytes : List ℕ) → bytes ≡ withPart stagesPart (joined stageBytes (planOver f lent .stages)) bytes
+  pub no-stages-put : length lent ≢ stagesSize → (bytes : List ℕ) → bytes ≡ withPart stagesPart (bytesOfEach stageBytes (planOver f lent .stages)) bytes
   no-stages-put other bytes =
-      let none : joined stageBytes (planOver f lent .stages) ≡ [] = joined-lent ∙ rw (ne-eqb (length lent) stagesSize other) refl in
+      let none : bytesOfEach stageBytes (planOver f lent .stages) ≡ [] = joined-lent ∙ rw (ne-eqb (length lent) stagesSize other) refl in
       rw none (none-laid (offsetOf stagesPart) bytes .1)

@@ -1,6 +1,6 @@
 -- The laws of a cell in the bytes of a host. Read in this order.
 pub mod Cells
-pub mod Entries
+pub mod EntryBytes
 pub mod Parts
 pub mod Lent
 pub mod ReadBack

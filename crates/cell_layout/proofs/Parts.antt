@@ -11,9 +11,9 @@ use lib.ListN.{length, take, drop, getD, length-take, length-drop, drop-of-lengt
 use lib.Seq.{take-nil, take-all, take-at, drop-at, drop-drop, length-take-le}
 use borrow.Author.Tests.{eq-eqb, ne-eqb}
 use Rattle.model.proofs.Decide.{decided, decides-eq, decides-lt}
-use Rattle.plan_bytes.specs.Over.{part}
+use Rattle.plan_bytes.specs.Over.{bytesFrom}
 use Rattle.plan_bytes.proofs.Laid.{cut-later}
-use Rattle.moves_text.specs.Space.{overlaid, overlaidAt}
+use Rattle.moves_text.specs.Buffer.{overlaid, overlaidAt}
 use Rattle.moves_text.proofs.Overlays.{overlaid-none, nothing-overlaid, overlaid-at-length}
 use Rattle.cell_layout.specs.Layout.{sizes, resourcesPart, typesPart, rowsPart, total, sizeOf, offsetOf, cellSize, partIn, withPart, withParts}
 
@@ -49,12 +49,12 @@ module _ (at : ℕ) (new bytes : List ℕ) (h : at ≤ length bytes) where
   from-there : drop at next ≡ overlaid new (drop at bytes)
   from-there = drop-at (take at bytes) _ at (length-take-le at bytes h)
 
-  before-it : (from n : ℕ) → from + n ≤ at → part from n next ≡ part from n bytes
+  before-it : (from n : ℕ) → from + n ≤ at → bytesFrom from n next ≡ bytesFrom from n bytes
   before-it from n room =
       let same : take at next ≡ take at bytes = take-at (take at bytes) _ at (length-take-le at bytes h) in
-      sym (cut-later from n at next room) ∙ ap (part from n) same ∙ cut-later from n at bytes room
+      sym (cut-later from n at next room) ∙ ap (bytesFrom from n) same ∙ cut-later from n at bytes room
 
-  behind-it : (from n : ℕ) → at + length new ≤ from → part from n next ≡ part from n bytes
+  behind-it : (from n : ℕ) → at + length new ≤ from → bytesFrom from n next ≡ bytesFrom from n bytes
   behind-it from n room =
       let m = from - at in
       let e : from ≡ at + m = omega arith in
@@ -106,14 +106,14 @@ pub part-long : (k : ℕ) (bytes : List ℕ) → cellSize ≤ length bytes → l
 part-long k bytes h = length-take-le (sizeOf k) (drop (offsetOf k) bytes) (omega (arith, length-drop (offsetOf k) bytes, ends-within sizes k))
 
 -- so a part into which nothing was put is as it was, and one into which last something of its size was put is that
-abbrev pub Kept : List (ℕ × List ℕ) → List ℕ → List ℕ → Type 0
-Kept ws new bytes = (j : ℕ) → ((old : List ℕ) → leftIn j ws old ≡ old) → partIn j new ≡ partIn j bytes
+abbrev pub PartsKept : List (ℕ × List ℕ) → List ℕ → List ℕ → Type 0
+PartsKept ws new bytes = (j : ℕ) → ((old : List ℕ) → leftIn j ws old ≡ old) → partIn j new ≡ partIn j bytes
 
 abbrev pub Back : List (ℕ × List ℕ) → List ℕ → Type 0
 Back ws new = (j : ℕ) (put : List ℕ) → ((old : List ℕ) → leftIn j ws old ≡ overlaid put old) → length put ≡ sizeOf j → partIn j new ≡ put
 
 module _ (ws : List (ℕ × List ℕ)) (bytes : List ℕ) (h : cellSize ≤ length bytes) where
-  pub parts-kept : Kept ws (withParts ws bytes) bytes
+  pub parts-kept : PartsKept ws (withParts ws bytes) bytes
   parts-kept j none = parts-left ws bytes h j ∙ none (partIn j bytes)
 
   pub parts-back : Back ws (withParts ws bytes)

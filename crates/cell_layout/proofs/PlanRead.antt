@@ -13,7 +13,7 @@ use Rattle.model.specs.declared.Plan.{Plan}
 use Rattle.model.proofs.Decide.{decided, decides-eq, decides-le}
 use Rattle.model.proofs.Lists.{replicated}
 use Rattle.plan_text.specs.TextQuestions.{textNumber}
-use Rattle.plan_text.specs.Written.{Draft}
+use Rattle.plan_text.specs.Draft.{Draft}
 use Rattle.plan_text.specs.Reading.{reading}
 use Rattle.plan_text.proofs.Kept.{Sizes}
 use Rattle.plan_text.proofs.AcceptedText.{refused-empty, accepted-whole, accepted-sound}

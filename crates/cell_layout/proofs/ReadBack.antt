@@ -16,23 +16,23 @@ use Rattle.model.proofs.Lists.{each-map}
 use Rattle.events.specs.declared.JobList.{JobList}
 use Rattle.plan_bytes.specs.Over.{entriesIn, stageIn, stageSize, stageBytes, planRead}
 use Rattle.plan_bytes.proofs.Laid.{stage-back}
-use Rattle.cell_layout.specs.Layout.{numberOf, bytesOf, joined, boundSize, jobIn, jobSize, jobBytes, cellSize, withParts}
+use Rattle.cell_layout.specs.Layout.{valueOf, bytesOf, bytesOfEach, boundSize, jobIn, jobSize, jobBytes, cellSize, withParts}
 use Rattle.cell_layout.specs.Layout.{resourcesPart, typesPart, rowsPart, capacitiesPart, ranksPart, boundsPart, lengthsPart, stagesPart, jobCountPart, jobsPart}
 use Rattle.cell_layout.specs.Layout.{isCell, frameLaid, planLaid, listLaid, planIn, listIn, planParts, listParts, withPlan, withList}
 use Rattle.cell_layout.specs.Fitting.{StageFits, PlanFits, JobFits, ListFits}
 use Rattle.cell_layout.proofs.Cells.{is-cell}
-use Rattle.cell_layout.proofs.Parts.{Kept, Back, parts-room, parts-kept, parts-back}
+use Rattle.cell_layout.proofs.Parts.{PartsKept, Back, parts-room, parts-kept, parts-back}
 
 -- a number below what its bytes have room for
 abbrev limit : ℕ → ℕ
 limit zero = 1
 limit (suc k) = 256 * limit k
 
-number-back : (k n : ℕ) → n < limit k → numberOf (bytesOf k n) ≡ n
+number-back : (k n : ℕ) → n < limit k → valueOf (bytesOf k n) ≡ n
 number-back zero n h = omega arith
 number-back (suc k) n h = omega (arith, mod-add-div n 256, number-back k (n / 256) (omega (arith, mod-add-div n 256)))
 
-one-byte : (b : ℕ) → numberOf (b ∷ []) ≡ b
+one-byte : (b : ℕ) → valueOf (b ∷ []) ≡ b
 one-byte b = omega arith
 
 -- entries: what is written of each is read as it was, so all of them are, and they have the sizes of all
@@ -40,13 +40,13 @@ module _ {A : Type 0} (read : List ℕ → A) (write : A → List ℕ) (size : �
   abbrev Same : A → Type 0
   Same x = (length (write x) ≡ size) × (read (write x) ≡ x)
 
-  entries-back : (xs : List A) {n : ℕ} → Each Same xs → length xs ≡ n → (length (joined write xs) ≡ size * n) × (entriesIn read size n (joined write xs) ≡ xs)
+  entries-back : (xs : List A) {n : ℕ} → Each Same xs → length xs ≡ n → (length (bytesOfEach write xs) ≡ size * n) × (entriesIn read size n (bytesOfEach write xs) ≡ xs)
   entries-back [] h e = rw (sym e) (sym (mul-zero size), refl)
   entries-back (x ∷ xs) h e =
       let rest = entries-back xs (h .1) refl in
       rw (sym e) (
-        omega (arith, length-append (write x) (joined write xs), h .0 .0, mul-suc size (length xs), rest .0),
-        rw (take-at (write x) (joined write xs) size (h .0 .0), drop-at (write x) (joined write xs) size (h .0 .0), h .0 .1) (ap (λ ys. x ∷ ys) (rest .1)),
+        omega (arith, length-append (write x) (bytesOfEach write xs), h .0 .0, mul-suc size (length xs), rest .0),
+        rw (take-at (write x) (bytesOfEach write xs) size (h .0 .0), drop-at (write x) (bytesOfEach write xs) size (h .0 .0), h .0 .1) (ap (λ ys. x ∷ ys) (rest .1)),
       )
 
 job-back : (j : Job) → JobFits j → Same jobIn jobBytes jobSize j
@@ -55,25 +55,25 @@ job-back j fits =
 
 -- a plan and a job list are read by their parts alone
 module _ (new bytes : List ℕ) where
-  plan-same : (l : JobList) → Kept (listParts l) new bytes → planLaid new ≡ planLaid bytes
+  plan-same : (l : JobList) → PartsKept (listParts l) new bytes → planLaid new ≡ planLaid bytes
   unfolding planLaid planRead frameLaid
   plan-same l same =
       λ i. record {
-        resources = numberOf (same resourcesPart (λ old. refl) i);
-        types = numberOf (same typesPart (λ old. refl) i);
-        rows = numberOf (same rowsPart (λ old. refl) i);
+        resources = valueOf (same resourcesPart (λ old. refl) i);
+        types = valueOf (same typesPart (λ old. refl) i);
+        rows = valueOf (same rowsPart (λ old. refl) i);
         capacity = same capacitiesPart (λ old. refl) i;
         rank = same ranksPart (λ old. refl) i;
-        bound = entriesIn numberOf boundSize maxRows (same boundsPart (λ old. refl) i);
+        bound = entriesIn valueOf boundSize maxRows (same boundsPart (λ old. refl) i);
         lengths = same lengthsPart (λ old. refl) i;
         stages = entriesIn stageIn stageSize maxAllStages (same stagesPart (λ old. refl) i);
       }
 
-  list-same : (p : Plan) → Kept (planParts p) new bytes → listLaid new ≡ listLaid bytes
+  list-same : (p : Plan) → PartsKept (planParts p) new bytes → listLaid new ≡ listLaid bytes
   unfolding listLaid
   list-same p same =
       λ i. record {
-        count = numberOf (same jobCountPart (λ old. refl) i);
+        count = valueOf (same jobCountPart (λ old. refl) i);
         jobs = entriesIn jobIn jobSize maxJobs (same jobsPart (λ old. refl) i);
       }
 
@@ -83,23 +83,23 @@ module _ (new : List ℕ) where
   list-there l fits back =
       let each-job = each-map JobFits (Same jobIn jobBytes jobSize) job-back (l .jobs) (fits .jobs) in
       let jobs = entries-back jobIn jobBytes jobSize (l .jobs) each-job (fits .slots) in
-      let count = ap numberOf (back jobCountPart _ (λ old. refl) refl) ∙ number-back 1 (l .count) (fits .count) in
+      let count = ap valueOf (back jobCountPart _ (λ old. refl) refl) ∙ number-back 1 (l .count) (fits .count) in
       λ i. record { count = count i; jobs = (ap (entriesIn jobIn jobSize maxJobs) (back jobsPart _ (λ old. refl) (jobs .0)) ∙ jobs .1) i }
 
   plan-there : (p : Plan) → PlanFits p → Back (planParts p) new → planLaid new ≡ p
   unfolding planLaid planRead frameLaid
   plan-there p fits back =
-      let each-bound = each-map (λ (b : ℕ). b < 65536) (Same numberOf (bytesOf boundSize) boundSize) (λ b small. (refl, number-back 2 b small)) (p .bound) (fits .bounds) in
-      let bounds = entries-back numberOf (bytesOf boundSize) boundSize (p .bound) each-bound (fits .rows) in
+      let each-bound = each-map (λ (b : ℕ). b < 65536) (Same valueOf (bytesOf boundSize) boundSize) (λ b small. (refl, number-back 2 b small)) (p .bound) (fits .bounds) in
+      let bounds = entries-back valueOf (bytesOf boundSize) boundSize (p .bound) each-bound (fits .rows) in
       let each-stage = each-map StageFits (Same stageIn stageBytes stageSize) (λ s fit. stage-back s (fit .0) (fit .1)) (p .stages) (fits .stages) in
       let stages = entries-back stageIn stageBytes stageSize (p .stages) each-stage (fits .slots) in
       λ i. record {
-        resources = (ap numberOf (back resourcesPart _ (λ old. refl) refl) ∙ one-byte (p .resources)) i;
-        types = (ap numberOf (back typesPart _ (λ old. refl) refl) ∙ one-byte (p .types)) i;
-        rows = (ap numberOf (back rowsPart _ (λ old. refl) refl) ∙ one-byte (p .rows)) i;
+        resources = (ap valueOf (back resourcesPart _ (λ old. refl) refl) ∙ one-byte (p .resources)) i;
+        types = (ap valueOf (back typesPart _ (λ old. refl) refl) ∙ one-byte (p .types)) i;
+        rows = (ap valueOf (back rowsPart _ (λ old. refl) refl) ∙ one-byte (p .rows)) i;
         capacity = back capacitiesPart _ (λ old. refl) (fits .capacity) i;
         rank = back ranksPart _ (λ old. refl) (fits .rank) i;
-        bound = (ap (entriesIn numberOf boundSize maxRows) (back boundsPart _ (λ old. refl) (bounds .0)) ∙ bounds .1) i;
+        bound = (ap (entriesIn valueOf boundSize maxRows) (back boundsPart _ (λ old. refl) (bounds .0)) ∙ bounds .1) i;
         lengths = back lengthsPart _ (λ old. refl) (fits .lengths) i;
         stages = (ap (entriesIn stageIn stageSize maxAllStages) (back stagesPart _ (λ old. refl) (stages .0)) ∙ stages .1) i;
       }

@@ -10,7 +10,7 @@ use Rattle.model.specs.Questions.{Question, answerOf}
 use Rattle.model.proofs.Decide.{Decides, holding, failing, decides-le}
 use Rattle.plan_text.specs.Lines.{Line, lineEnd, wider, splitBy, linesIn, linesOf}
 use Rattle.plan_text.specs.Records.{recordIn}
-use Rattle.plan_text.specs.Written.{Draft, emptyDraft, written}
+use Rattle.plan_text.specs.Draft.{Draft, emptyDraft, draftAfter}
 use Rattle.plan_text.specs.TextQuestions.{maxText, startAfter}
 use Rattle.plan_text.specs.Reading.{refused, formQuestions, recordQuestions, ofLine, isComplete, readFrom, reading}
 use Rattle.plan_text.specs.declared.TextAnswer.{TextAnswer}
@@ -63,7 +63,7 @@ module _ {m : ℕ} where
   read-within [] n from d h = either (isComplete d) (nowhere refl refl) (nowhere refl refl)
   read-within (l ∷ ls) n from d h =
       let r = recordIn (l .bytes) in
-      among (n + 1) (omega arith) (omega arith) (read-within ls (n + 1) (from + length (l .bytes) + 1) (written d r) (omega arith))
+      among (n + 1) (omega arith) (omega arith) (read-within ls (n + 1) (from + length (l .bytes) + 1) (draftAfter d r) (omega arith))
       (formQuestions (d .section) l ++ recordQuestions d r)
 
 pub shown-within : (text : List ℕ) → Within maxText (reading text)

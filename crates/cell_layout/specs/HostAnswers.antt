@@ -14,7 +14,7 @@ use Rattle.events.specs.declared.ListDrained.{ListDrained}
 use Rattle.plan_text.specs.TextQuestions.{textNumber}
 use Rattle.plan_text.specs.Reading.{reading}
 use Rattle.plan_text.specs.declared.Reading.{Reading}
-use Rattle.canonical_text.specs.Writing.{writeNumber, writing, spaceAfter}
+use Rattle.canonical_text.specs.Writing.{writeNumber, writing, bufferAfter}
 use Rattle.canonical_text.specs.declared.Writing.{Writing}
 use Rattle.cell_layout.specs.Layout.{isCell, planIn, listIn, withPlan, withList}
 
@@ -41,15 +41,15 @@ readCell text bytes = withPlan (reading text .plan) bytes
 unfoldable pub shownAnswer : List ℕ → ℕ
 shownAnswer text = reading text .from + 4294967296 * reading text .to
 
--- the plan is written into a space: the answer and the length, and the space afterwards
+-- the plan is written into a buffer: the answer and the length, and the buffer afterwards
 abbrev pub packedWriting : Writing → ℕ
 packedWriting w = packed (writeNumber (w .answer)) (w .length) 0
 
 unfoldable pub writeAnswer : List ℕ → List ℕ → ℕ
-writeAnswer bytes space = cond (isCell bytes) (packedWriting (writing (planIn bytes) space)) noCell
+writeAnswer bytes buffer = cond (isCell bytes) (packedWriting (writing (planIn bytes) buffer)) noCell
 
-unfoldable pub writtenSpace : List ℕ → List ℕ → List ℕ
-writtenSpace bytes space = cond (isCell bytes) (spaceAfter (planIn bytes) space) space
+unfoldable pub writtenBuffer : List ℕ → List ℕ → List ℕ
+writtenBuffer bytes buffer = cond (isCell bytes) (bufferAfter (planIn bytes) buffer) buffer
 
 -- the upstream check of the plan, with its two places
 abbrev pub packedCheck : Check → ℕ
@@ -95,6 +95,6 @@ abbrev pub eventAnswers : List ℕ → List Event → List ℕ
 eventAnswers bytes [] = []
 eventAnswers bytes (e ∷ es) = eventAnswer bytes e ∷ eventAnswers (eventCell bytes e) es
 
-abbrev pub zeros : List ℕ → ℕ
-zeros [] = 0
-zeros (a ∷ more) = cond (eqb a 0) 1 0 + zeros more
+abbrev pub admittedAnswers : List ℕ → ℕ
+admittedAnswers [] = 0
+admittedAnswers (a ∷ more) = cond (eqb a 0) 1 0 + admittedAnswers more

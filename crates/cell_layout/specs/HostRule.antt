@@ -9,14 +9,14 @@ use Rattle.events.specs.declared.Event.{Event}
 use Rattle.emptying.specs.Run.{run}
 use Rattle.emptying.specs.Emptying.{start, EmptyingRule}
 use Rattle.cell_layout.specs.Layout.{planIn, listIn}
-use Rattle.cell_layout.specs.HostAnswers.{checkAnswer, cellAfterAll, eventAnswers, zeros}
+use Rattle.cell_layout.specs.HostAnswers.{checkAnswer, cellAfterAll, eventAnswers, admittedAnswers}
 
 -- the bytes hold the lists of the theorem's run, and the moves that it counts are those answered 0
 pub record HostRule (bytes : List ℕ) (events moves : List Event) : Type 0 where
   pub between : listIn (cellAfterAll bytes events) ≡ run (planIn bytes) start events .list
   pub end : listIn (cellAfterAll (cellAfterAll bytes events) moves) ≡ run (planIn bytes) (run (planIn bytes) start events) moves .list
   pub rule : EmptyingRule (planIn bytes) (run (planIn bytes) start events) (run (planIn bytes) (run (planIn bytes) start events) moves)
-      (zeros (eventAnswers (cellAfterAll bytes events) moves))
+      (admittedAnswers (eventAnswers (cellAfterAll bytes events) moves))
 
 abbrev pub HostTheorem : Type 0
 HostTheorem =

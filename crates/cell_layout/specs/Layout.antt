@@ -11,23 +11,23 @@ use Rattle.model.specs.declared.Plan.{Plan}
 use Rattle.model.specs.declared.Job.{Job}
 use Rattle.events.specs.JobList.{emptyList}
 use Rattle.events.specs.declared.JobList.{JobList}
-use Rattle.plan_bytes.specs.Over.{part, entriesIn, stageBytes, stagesSize, planRead, emptyFrame}
+use Rattle.plan_bytes.specs.Over.{bytesFrom, entriesIn, stageBytes, stagesSize, planRead, emptyFrame}
 use Rattle.plan_bytes.specs.declared.Frame.{Frame}
-use Rattle.moves_text.specs.Space.{overlaidAt}
+use Rattle.moves_text.specs.Buffer.{overlaidAt}
 
 -- the number that these bytes hold, and the n lowest bytes of a number
-abbrev pub numberOf : List ℕ → ℕ
-numberOf [] = 0
-numberOf (b ∷ bs) = b + 256 * numberOf bs
+abbrev pub valueOf : List ℕ → ℕ
+valueOf [] = 0
+valueOf (b ∷ bs) = b + 256 * valueOf bs
 
 abbrev pub bytesOf : ℕ → ℕ → List ℕ
 bytesOf zero v = []
 bytesOf (suc n) v = v % 256 ∷ bytesOf n (v / 256)
 
 -- what entries come to, one behind the other
-abbrev pub joined : {A : Type 0} → (A → List ℕ) → List A → List ℕ
-joined write [] = []
-joined write (x ∷ xs) = write x ++ joined write xs
+abbrev pub bytesOfEach : {A : Type 0} → (A → List ℕ) → List A → List ℕ
+bytesOfEach write [] = []
+bytesOfEach write (x ∷ xs) = write x ++ bytesOfEach write xs
 
 -- a bound has 2 bytes
 abbrev pub boundSize : ℕ
@@ -38,7 +38,7 @@ abbrev pub jobSize : ℕ
 jobSize = 12
 
 abbrev pub jobIn : List ℕ → Job
-jobIn bytes = record { number = numberOf (take 4 bytes); kind = numberOf (part 4 4 bytes); stage = numberOf (part 8 4 bytes) }
+jobIn bytes = record { number = valueOf (take 4 bytes); kind = valueOf (bytesFrom 4 4 bytes); stage = valueOf (bytesFrom 8 4 bytes) }
 
 abbrev pub jobBytes : Job → List ℕ
 jobBytes j = bytesOf 4 (j .number) ++ bytesOf 4 (j .kind) ++ bytesOf 4 (j .stage)
@@ -109,7 +109,7 @@ isCell bytes = leb cellSize (length bytes)
 
 -- what lies in a part, and the bytes with something else in it, as much as it has room for; and in several, one after the other
 abbrev pub partIn : ℕ → List ℕ → List ℕ
-partIn k bytes = part (offsetOf k) (sizeOf k) bytes
+partIn k bytes = bytesFrom (offsetOf k) (sizeOf k) bytes
 
 abbrev pub withPart : ℕ → List ℕ → List ℕ → List ℕ
 withPart k new bytes = overlaidAt (offsetOf k) (take (sizeOf k) new) bytes
@@ -122,12 +122,12 @@ withParts ((k, new) ∷ more) bytes = withParts more (withPart k new bytes)
 unfoldable pub frameLaid : List ℕ → Frame
 frameLaid bytes =
     record {
-      resources = numberOf (partIn resourcesPart bytes);
-      types = numberOf (partIn typesPart bytes);
-      rows = numberOf (partIn rowsPart bytes);
+      resources = valueOf (partIn resourcesPart bytes);
+      types = valueOf (partIn typesPart bytes);
+      rows = valueOf (partIn rowsPart bytes);
       capacity = partIn capacitiesPart bytes;
       rank = partIn ranksPart bytes;
-      bound = entriesIn numberOf boundSize maxRows (partIn boundsPart bytes);
+      bound = entriesIn valueOf boundSize maxRows (partIn boundsPart bytes);
       lengths = partIn lengthsPart bytes;
     }
 
@@ -142,7 +142,7 @@ planIn bytes = cond (isCell bytes) (planLaid bytes) emptyPlan
 
 -- the job list of the table that lies in the bytes; too few of them hold no job
 unfoldable pub listLaid : List ℕ → JobList
-listLaid bytes = record { count = numberOf (partIn jobCountPart bytes); jobs = entriesIn jobIn jobSize maxJobs (partIn jobsPart bytes) }
+listLaid bytes = record { count = valueOf (partIn jobCountPart bytes); jobs = entriesIn jobIn jobSize maxJobs (partIn jobsPart bytes) }
 
 abbrev pub listIn : List ℕ → JobList
 listIn bytes = cond (isCell bytes) (listLaid bytes) emptyList
@@ -155,13 +155,13 @@ planParts p =
     ∷ (rowsPart, p .rows ∷ [])
     ∷ (capacitiesPart, p .capacity)
     ∷ (ranksPart, p .rank)
-    ∷ (boundsPart, joined (bytesOf boundSize) (p .bound))
+    ∷ (boundsPart, bytesOfEach (bytesOf boundSize) (p .bound))
     ∷ (lengthsPart, p .lengths)
-    ∷ (stagesPart, joined stageBytes (p .stages))
+    ∷ (stagesPart, bytesOfEach stageBytes (p .stages))
     ∷ []
 
 abbrev pub listParts : JobList → List (ℕ × List ℕ)
-listParts l = (jobCountPart, bytesOf 1 (l .count)) ∷ (jobsPart, joined jobBytes (l .jobs)) ∷ []
+listParts l = (jobCountPart, bytesOf 1 (l .count)) ∷ (jobsPart, bytesOfEach jobBytes (l .jobs)) ∷ []
 
 -- the bytes with a plan in them in place of the one that was there, and with a job list; too few of them stay as they are
 unfoldable pub withPlan : Plan → List ℕ → List ℕ

@@ -2,8 +2,8 @@
 ghost use mathlib.Core.Path.{_≡_};
 ghost use Prim.Native.Nat.{_+_, _≤_};
 ghost use lib.ListN.{length};
-ghost use Rattle.plan_bytes.specs.Over.{part};
-ghost use Rattle.cell_layout.specs.Layout.{numberOf, boundSize, jobIn, jobSize};
+ghost use Rattle.plan_bytes.specs.Over.{bytesFrom};
+ghost use Rattle.cell_layout.specs.Layout.{valueOf, boundSize, jobIn, jobSize};
 use bytes::copy;
 use model::Job;
 
@@ -22,7 +22,7 @@ fn u8_to_u32(x: u8) -> u32
 // A bound has two bytes.
 pub(crate) fn bound_at(bounds: &[u8], at: usize) -> u16
     requires { ⌜ at + boundSize ≤ length (now bounds) ⌝ }
-    ensures { λ r. ⌜ r ≡ numberOf (part at boundSize (now (bounds .entry))) ⌝ }
+    ensures { λ r. ⌜ r ≡ valueOf (bytesFrom at boundSize (now (bounds .entry))) ⌝ }
 {
     u8_to_u16(bounds[at]) + 256 * u8_to_u16(bounds[at + 1])
 }
@@ -30,7 +30,7 @@ pub(crate) fn bound_at(bounds: &[u8], at: usize) -> u16
 // A number of a job has four.
 pub(crate) fn number_at(jobs: &[u8], at: usize) -> u32
     requires { ⌜ at + 4 ≤ length (now jobs) ⌝ }
-    ensures { λ r. ⌜ r ≡ numberOf (part at 4 (now (jobs .entry))) ⌝ }
+    ensures { λ r. ⌜ r ≡ valueOf (bytesFrom at 4 (now (jobs .entry))) ⌝ }
 {
     let high = u8_to_u32(jobs[at + 2]) + 256 * u8_to_u32(jobs[at + 3]);
     u8_to_u32(jobs[at]) + 256 * (u8_to_u32(jobs[at + 1]) + 256 * high)
@@ -38,7 +38,7 @@ pub(crate) fn number_at(jobs: &[u8], at: usize) -> u32
 
 pub(crate) fn job_at(jobs: &[u8], at: usize) -> Job
     requires { ⌜ at + jobSize ≤ length (now jobs) ⌝ }
-    ensures { λ r. ⌜ r ≡ jobIn (part at jobSize (now (jobs .entry))) ⌝ }
+    ensures { λ r. ⌜ r ≡ jobIn (bytesFrom at jobSize (now (jobs .entry))) ⌝ }
 {
     Job {
         number: number_at(jobs, at),

@@ -6,7 +6,7 @@ ghost use Rattle.model.specs.Limits.{maxRows};
 ghost use Rattle.events.specs.JobList.{emptyList};
 ghost use Rattle.plan_bytes.specs.Over.{entriesIn};
 ghost use Rattle.internals.specs.JobNumbers.{jobsLaid};
-ghost use Rattle.cell_layout.specs.Layout.{numberOf, boundSize, sizeOf, boundsPart, frameIn, listIn};
+ghost use Rattle.cell_layout.specs.Layout.{valueOf, boundSize, sizeOf, boundsPart, frameIn, listIn};
 use crate::entries::bound_at;
 use crate::entries::bytes_16;
 use crate::entries::bytes_32;
@@ -32,7 +32,7 @@ mod entries;
 
 fn bounds_in(part: &[u8]) -> [u16; 32]
     requires { ⌜ length (now part) ≡ sizeOf boundsPart ⌝ }
-    ensures { λ r. ⌜ r ≡ entriesIn numberOf boundSize maxRows (now (part .entry)) ⌝ }
+    ensures { λ r. ⌜ r ≡ entriesIn valueOf boundSize maxRows (now (part .entry)) ⌝ }
 {
     let mut bounds = [0u16; 32];
     let mut i = 0;

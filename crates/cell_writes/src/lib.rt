@@ -4,8 +4,8 @@ ghost use Prim.Native.Nat.{_+_, _≤_, _%_};
 ghost use mathlib.Core.List.{[]};
 ghost use lib.ListN.{length, take};
 ghost use Rattle.plan_bytes.specs.Over.{planRead, planOver};
-ghost use Rattle.moves_text.specs.Space.{overlaidAt};
-ghost use Rattle.cell_layout.specs.Layout.{bytesOf, joined, boundSize, jobBytes, jobSize, offsetOf, boundsPart, stagesPart, cellSize};
+ghost use Rattle.moves_text.specs.Buffer.{overlaidAt};
+ghost use Rattle.cell_layout.specs.Layout.{bytesOf, bytesOfEach, boundSize, jobBytes, jobSize, offsetOf, boundsPart, stagesPart, cellSize};
 ghost use Rattle.cell_layout.specs.Layout.{withParts, planParts, withPlan, withList};
 use cell_layout::BOUNDS;
 use cell_layout::CAPACITIES;
@@ -59,7 +59,7 @@ fn put_bound(bound: u16, cell: &mut [u8], at: usize)
 
 fn put_bounds(bound: [u16; 32], cell: &mut [u8])
     requires { ⌜ cellSize ≤ length (now cell) ⌝ }
-    ensures { λ _. ⌜ now (cell .exit) ≡ overlaidAt (offsetOf boundsPart) (joined (bytesOf boundSize) bound) (now (cell .entry)) ⌝ }
+    ensures { λ _. ⌜ now (cell .exit) ≡ overlaidAt (offsetOf boundsPart) (bytesOfEach (bytesOf boundSize) bound) (now (cell .entry)) ⌝ }
 {
     let mut i = 0;
     while i < 32 {

@@ -1,26 +1,26 @@
-// `cellplan`: a plan text on standard input, its one spelling on standard output. What is printed is `respelling`'s, and what a person is
+// `cellplan`: a plan text on standard input, its canonical form on standard output. What is printed is `write_canonical`'s, and what a person is
 // told of a refused text, on standard error, is that of `messages`.
 use libc::STDERR_FILENO;
 use libc::STDIN_FILENO;
 use libc::STDOUT_FILENO;
 use moves_messages::text_message;
 use read_lines::part_of;
-use write_canonical::respell;
+use write_canonical::canonical_form;
 
-fn answer(text: &[u8], space: &mut [u8]) {
-    let printed = respell(text, space);
-    if !io::write_all(STDOUT_FILENO, part_of(space, 0, printed)) {
+fn answer(text: &[u8], buffer: &mut [u8]) {
+    let printed = canonical_form(text, buffer);
+    if !io::write_all(STDOUT_FILENO, part_of(buffer, 0, printed)) {
         io::write_all(STDERR_FILENO, b"the output could not be written\n");
     }
-    let said = text_message(text, space);
-    io::write_all(STDERR_FILENO, part_of(space, 0, said));
+    let said = text_message(text, buffer);
+    io::write_all(STDERR_FILENO, part_of(buffer, 0, said));
 }
 
 fn main() {
     // one byte more than is taken, so that a longer text is noticed
     let mut text = [0u8; 65537];
     // enough for every output, and for a refused line with what is said of it
-    let mut space = [0u8; 66000];
+    let mut buffer = [0u8; 66000];
     let n = io::read_full(STDIN_FILENO, &mut text);
-    answer(&text[..n], &mut space);
+    answer(&text[..n], &mut buffer);
 }

@@ -14,10 +14,10 @@ use Rattle.model.specs.declared.Plan.{Plan}
 use Rattle.model.specs.declared.Job.{Job}
 use Rattle.model.proofs.Decide.{passes}
 use Rattle.model.proofs.Sums.{over-stages-added, over-stages-removed, over-stages-moved}
-use Rattle.model.proofs.Jobs.{decides-active, Found}
+use Rattle.model.proofs.Jobs.{decides-active, FoundJob}
 use Rattle.events.specs.JobList.{jobsOf, listOf, Agrees}
 use Rattle.events.specs.Events.{jobsAfter, ownConditions, answer, isAdmitted, listAfter}
-use Rattle.emptying.specs.Ledger.{Ledger, demandAt, takes, gives, struck, written, entered}
+use Rattle.emptying.specs.Ledger.{Ledger, demandAt, takes, gives, struck, posted, entered}
 use Rattle.emptying.specs.Run.{State}
 use Rattle.events.specs.declared.Event.{Event}
 use Rattle.events.specs.declared.Event.the-variants.{Load, Advance, Unload, Pull}
@@ -48,7 +48,7 @@ module _ (p : Plan) (sound : Sound p) (l : Ledger) (agreeing : Agreeing p (l .jo
   job-struck : (e : Event) (n : ℕ) → Active n (l .jobs) → removed n (l .jobs) ≡ jobsAfter p (l .jobs) e → Written e (struck p l n)
   job-struck e n a leads = rw (passes (decides-active n (l .jobs)) a) (record { jobs = leads; balance = balance })
     where
-      found : Found p n (l .jobs) a
+      found : FoundJob p n (l .jobs) a
       found = names p sound (l .jobs) agreeing n a
 
       balance : (r : ℕ) → l .taken r ≡ l .given r + demandAt p (jobOf n (l .jobs)) r + unitsHeld p r (removed n (l .jobs))
@@ -57,7 +57,7 @@ module _ (p : Plan) (sound : Sound p) (l : Ledger) (agreeing : Agreeing p (l .jo
           let left = over-stages-removed p (demandOf p r) (a .here .before) (a .here .after) (a .here .item) here in
           rw (found .removal, found .job) (omega (arith, balanced r, ap (unitsHeld p r) (a .here .whole), left))
 
-  event-written : (e : Event) → AllHold (ownConditions p (l .jobs) e) → Written e (written p l e)
+  event-written : (e : Event) → AllHold (ownConditions p (l .jobs) e) → Written e (posted p l e)
   event-written (Load n t) h =
       let stage = sound .lengths t (h .1 .1 .0) in
       record {
@@ -69,7 +69,7 @@ module _ (p : Plan) (sound : Sound p) (l : Ledger) (agreeing : Agreeing p (l .jo
       a : Active n (l .jobs)
       a = h .1 .0
 
-      found : Found p n (l .jobs) a
+      found : FoundJob p n (l .jobs) a
       found = names p sound (l .jobs) agreeing n a
 
       balance : (r : ℕ)

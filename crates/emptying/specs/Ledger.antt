@@ -43,10 +43,10 @@ struck p l n =
     l
 
 -- an admitted event is written down; a move or a pull of a job that the ledger lacks changes nothing
-abbrev pub written : Plan → Ledger → Event → Ledger
-written p l (Load n t) =
+abbrev pub posted : Plan → Ledger → Event → Ledger
+posted p l (Load n t) =
     record { jobs = loaded n t (l .jobs); taken = λ (r : ℕ). l .taken r + demandOf p r t 1; given = l .given }
-written p l (Advance n) =
+posted p l (Advance n) =
     cond (isActive n (l .jobs))
     (record {
       jobs = advanced p n (l .jobs);
@@ -54,12 +54,12 @@ written p l (Advance n) =
       given = λ (r : ℕ). l .given r + gives p (jobOf n (l .jobs)) r;
     })
     l
-written p l (Unload n) = struck p l n
-written p l (Pull n) = struck p l n
+posted p l (Unload n) = struck p l n
+posted p l (Pull n) = struck p l n
 
 -- a refused event changes nothing
 unfoldable pub entered : Plan → Ledger → Event → Answer → Ledger
-entered p l e a = cond (isAdmitted a) (written p l e) l
+entered p l e a = cond (isAdmitted a) (posted p l e) l
 
 -- the ledger after events with their answers
 abbrev pub ledgerAfter : Plan → Ledger → List Event → List Answer → Ledger

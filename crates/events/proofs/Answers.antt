@@ -19,14 +19,14 @@ use Rattle.model.specs.declared.Job.{Job}
 use Rattle.model.proofs.Decide.{Decides, decides-iff, decides-not, decides-lt, decides-eq, decides-range}
 use Rattle.model.proofs.Decide.{Answers, done, asked, first-failure, accepted, all-hold}
 use Rattle.model.proofs.Lists.{append-each, each-at, each-removed, each-moved}
-use Rattle.model.proofs.Jobs.{distinct-moved, distinct-removed, distinct-added, Found, found}
+use Rattle.model.proofs.Jobs.{distinct-moved, distinct-removed, distinct-added, FoundJob, found}
 use Rattle.model.proofs.Jobs.{decides-active, decides-capacities, decides-rows, lowest-exceeded, worst-broken}
 use Rattle.model.proofs.Progress.{removed-keeps-capacities, removed-keeps-rows}
 use Rattle.model.proofs.Soundness.{decides-sound}
 use Rattle.events.specs.JobList.{jobsOf, listOf, Agrees}
 use Rattle.events.specs.Events.{LeadsTo, Allowed, WellNamed, Afterwards, jobsAfter, keptConditions, nameConditions, ownConditions, firstConditions, eventConditions}
 use Rattle.events.specs.Events.{keptQuestions, nameQuestions, ownQuestions, firstQuestions, eventQuestions}
-use Rattle.events.specs.Events.{agreement, answer, isAdmitted, listAfter, Judged, answerNumbers, Says}
+use Rattle.events.specs.Events.{agreement, answer, isAdmitted, listAfter, Judged, answerNumbers, AnswerSays}
 use Rattle.events.specs.declared.JobList.{JobList}
 use Rattle.events.specs.declared.Event.{Event}
 use Rattle.events.specs.declared.Event.the-variants.{Load, Advance, Unload, Pull}
@@ -65,7 +65,7 @@ module _ (p : Plan) (sound : Sound p) (js : List Job) (agreeing : Agreeing p js)
     pub staged-job : AtStage p (a .here .item)
     staged-job = at-job (AtStage p) (agreeing .staged)
 
-    pub names : Found p n js a
+    pub names : FoundJob p n js a
     names = found p a (agreeing .distinct)
 
     whole-distinct : Distinct (numbers (a .here .before ++ a .here .item ∷ a .here .after))
@@ -141,8 +141,8 @@ module _ (p : Plan) (sound : Sound p) (js : List Job) (agreeing : Agreeing p js)
         let staged = staged-after e l type leads in
         let r = exceeded p l in
         let w = broken p l in
-        let over = place-after (λ i. Says 18 i (OverCapacity r)) (KeepsCapacities p) (Exceeded p) r refl (lowest-exceeded p l staged) in
-        let row = place-after (λ i. Says 19 i (RowBroken w)) (KeepsRows p) (Broken p) w refl (worst-broken p l staged) in
+        let over = place-after (λ i. AnswerSays 18 i (OverCapacity r)) (KeepsCapacities p) (Exceeded p) r refl (lowest-exceeded p l staged) in
+        let row = place-after (λ i. AnswerSays 19 i (RowBroken w)) (KeepsRows p) (Broken p) w refl (worst-broken p l staged) in
         asked (decides-after (KeepsCapacities p) (decides-capacities p l staged)) over refl λ _.
         asked (decides-after (KeepsRows p) (decides-rows p l staged)) row refl λ _.
         done
@@ -277,15 +277,15 @@ first-answers p t =
     done
 
 -- agreement's own answer: 0, 11 or 12, whichever of the first two questions fails first
-pub agreement-first-failure : (p : Plan) (t : JobList) → FirstFailure (Says 0 0) (firstConditions p t) (agreement p t)
+pub agreement-first-failure : (p : Plan) (t : JobList) → FirstFailure (AnswerSays 0 0) (firstConditions p t) (agreement p t)
 unfolding agreement
-agreement-first-failure p t = first-failure isAdmitted Admitted (Says 0 0) refl (first-answers p t)
+agreement-first-failure p t = first-failure isAdmitted Admitted (AnswerSays 0 0) refl (first-answers p t)
 
 -- every answer, of any plan, table and event, names the first question that fails, with the place that its refusal words: of 18 the lowest
 -- resource exceeded, of 19 the row exceeded by the most
-pub answer-first-failure : (p : Plan) (t : JobList) (e : Event) → FirstFailure (Says 0 0) (eventConditions p t e) (answer p t e)
+pub answer-first-failure : (p : Plan) (t : JobList) (e : Event) → FirstFailure (AnswerSays 0 0) (eventConditions p t e) (answer p t e)
 unfolding answer
-answer-first-failure p t e = first-failure isAdmitted Admitted (Says 0 0) refl (event-answers p t e)
+answer-first-failure p t e = first-failure isAdmitted Admitted (AnswerSays 0 0) refl (event-answers p t e)
 
 -- an answer is the acceptance or not
 pub admitted-or-not : (a : Answer) → (a ≡ Admitted) ⊎ (isAdmitted a ≡ false)
@@ -354,7 +354,7 @@ pub pull-admitted : (p : Plan) (t : JobList) (n : ℕ) → Sound p → Agrees p 
 pull-admitted p t n sound agrees a = judged p t (Pull n) sound agrees a .exact .1 (pull-allowed p sound (jobsOf t) (agrees .jobs) n a)
 
 -- one question more: the answer is below k where its refusal is, and that of the questions after it
-below : (a : Answer) (k number : ℕ) {Q R : Type 0} → number < k → ((¬ Q) × Says number 0 a) ⊎ (Q × R)
+below : (a : Answer) (k number : ℕ) {Q R : Type 0} → number < k → ((¬ Q) × AnswerSays number 0 a) ⊎ (Q × R)
     → (Q × R → answerNumbers a .0 < k) → answerNumbers a .0 < k
 below a k number low (inl failed) later = rw (failed .1) low
 below a k number low (inr met) later = later met

@@ -75,42 +75,42 @@ abbrev pub isAdmitted : Answer → Bool
 isAdmitted a = eqb (answerNumbers a .0) 0
 
 -- the answer has this number and this place
-abbrev pub Says : ℕ → ℕ → Answer → Type 0
-Says number place a = answerNumbers a ≡ (number, place)
+abbrev pub AnswerSays : ℕ → ℕ → Answer → Type 0
+AnswerSays number place a = answerNumbers a ≡ (number, place)
 
 -- the event questions as they are worded: what is asked, and what the refusal says
 abbrev pub keptConditions : Plan → List Job → Event → List (Condition Answer)
 keptConditions p js e =
     record {
       holds = Afterwards p js e (KeepsCapacities p);
-      refusal = λ a. (r : ℕ) × Says 18 r a × (next : List Job) × LeadsTo p js e next × Exceeded p next r;
+      refusal = λ a. (r : ℕ) × AnswerSays 18 r a × (next : List Job) × LeadsTo p js e next × Exceeded p next r;
     }
     ∷ record {
       holds = Afterwards p js e (KeepsRows p);
-      refusal = λ a. (w : ℕ) × Says 19 w a × (next : List Job) × LeadsTo p js e next × Broken p next w;
+      refusal = λ a. (w : ℕ) × AnswerSays 19 w a × (next : List Job) × LeadsTo p js e next × Broken p next w;
     }
     ∷ []
 
 -- 13 and 14 of an event whose job must be active
 abbrev pub nameConditions : List Job → ℕ → List (Condition Answer)
-nameConditions js n = asks (InRange n maxNumber) (Says 13 0) ∷ asks (Active n js) (Says 14 0) ∷ []
+nameConditions js n = asks (InRange n maxNumber) (AnswerSays 13 0) ∷ asks (Active n js) (AnswerSays 14 0) ∷ []
 
 abbrev pub ownConditions : Plan → List Job → Event → List (Condition Answer)
 ownConditions p js (Load n t) =
-    asks (InRange n maxNumber) (Says 13 0)
-    ∷ asks (¬ Active n js) (Says 14 0)
-    ∷ asks (InRange t (p .types)) (Says 15 0)
-    ∷ asks (length js < maxJobs) (Says 16 0)
+    asks (InRange n maxNumber) (AnswerSays 13 0)
+    ∷ asks (¬ Active n js) (AnswerSays 14 0)
+    ∷ asks (InRange t (p .types)) (AnswerSays 15 0)
+    ∷ asks (length js < maxJobs) (AnswerSays 16 0)
     ∷ keptConditions p js (Load n t)
 ownConditions p js (Advance n) =
-    nameConditions js n ++ asks ((a : Active n js) → HasNext p (a .here .item)) (Says 17 0) ∷ keptConditions p js (Advance n)
+    nameConditions js n ++ asks ((a : Active n js) → HasNext p (a .here .item)) (AnswerSays 17 0) ∷ keptConditions p js (Advance n)
 ownConditions p js (Unload n) =
-    nameConditions js n ++ asks ((a : Active n js) → IsLast p (a .here .item)) (Says 17 0) ∷ keptConditions p js (Unload n)
+    nameConditions js n ++ asks ((a : Active n js) → IsLast p (a .here .item)) (AnswerSays 17 0) ∷ keptConditions p js (Unload n)
 ownConditions p js (Pull n) = nameConditions js n ++ keptConditions p js (Pull n)
 
 -- asked before all else
 abbrev pub firstConditions : Plan → JobList → List (Condition Answer)
-firstConditions p t = asks (Sound p) (Says 11 0) ∷ asks (Agrees p t) (Says 12 0) ∷ []
+firstConditions p t = asks (Sound p) (AnswerSays 11 0) ∷ asks (Agrees p t) (AnswerSays 12 0) ∷ []
 
 abbrev pub eventConditions : Plan → JobList → Event → List (Condition Answer)
 eventConditions p t e = firstConditions p t ++ ownConditions p (jobsOf t) e
@@ -183,4 +183,4 @@ pub record Judged (p : Plan) (t : JobList) (e : Event) : Type 0 where
   pub list : (a : Allowed p (jobsOf t) e) → listAfter p t e ≡ listOf (a .next)
   pub agrees : Agrees p (listAfter p t e)
   pub refused : answer p t e ≢ Admitted → listAfter p t e ≡ t
-  pub first : FirstFailure (Says 0 0) (eventConditions p t e) (answer p t e)
+  pub first : FirstFailure (AnswerSays 0 0) (eventConditions p t e) (answer p t e)

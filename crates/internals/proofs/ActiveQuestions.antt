@@ -15,7 +15,7 @@ use Rattle.model.specs.declared.Plan.{Plan}
 use Rattle.model.specs.declared.Stage.{Stage}
 use Rattle.model.specs.declared.Job.{Job}
 use Rattle.model.proofs.Decide.{holds}
-use Rattle.model.proofs.Jobs.{decides-active, Found}
+use Rattle.model.proofs.Jobs.{decides-active, FoundJob}
 use Rattle.events.specs.JobList.{jobsOf, Agrees}
 use Rattle.events.specs.Events.{isAdmitted, jobsAfter, nameQuestions, keptQuestions, ownQuestions, keptAnswer, agreement, answer, listOutcome}
 use Rattle.events.specs.declared.JobList.{JobList}
@@ -24,7 +24,7 @@ use Rattle.events.specs.declared.Event.the-variants.{Advance, Unload, Pull}
 use Rattle.events.specs.declared.Answer.{Answer}
 use Rattle.events.specs.declared.Answer.the-variants.{Admitted, BadNumber, WrongActivity, WrongStage}
 use Rattle.events.proofs.Answers.{staged-job, names, unload-admitted, pull-admitted}
-use Rattle.internals.specs.Parts.{sumsOf, ceilingsOf, keptAfter, positionOf, stageMet, activeAnswer}
+use Rattle.internals.specs.Internals.{sumsOf, ceilingsOf, keptAfter, positionOf, stageMet, activeAnswer}
 use Rattle.internals.specs.declared.StageAsked.{StageAsked}
 use Rattle.internals.specs.declared.StageAsked.the-variants.{Next, Last, Any}
 use Rattle.internals.proofs.QuestionParts.{agreement-holds, agreement-met, met-agreement, first-met, Refusing, entry-refused, entry-met}
@@ -32,7 +32,7 @@ use Rattle.internals.proofs.QuestionParts.{name-holds, name-met, by-pos
 use Rattle.internals.proofs.SumsAfter.{moved-exchanged, kept-exchanged}
 
 -- questions 11 to 14 of a move or a pull are met
-pub record Stands (p : Plan) (t : JobList) (n : ℕ) : Type 0 where
+pub record StandsActive (p : Plan) (t : JobList) (n : ℕ) : Type 0 where
   pub sound : Sound p
   pub agrees : Agrees p t
   pub met : isAdmitted (answerOf Admitted (nameQuestions (jobsOf t) n)) ≡ true
@@ -109,14 +109,14 @@ module _ (p : Plan) (t : JobList) (n : ℕ) (wanted : StageAsked) where
     pub active-refused : isAdmitted a ≡ false → record { answer = a; list = t } ≡ listOutcome p t (eventAsking wanted n)
     active-refused h = entry-refused p t (eventAsking wanted n) own rest (whole p t n wanted) (refuses p t n wanted) first a opens asked h
 
-    pub active-stands : isAdmitted a ≡ true → Stands p t n × (met ≡ true)
+    pub active-stands : isAdmitted a ≡ true → StandsActive p t n × (met ≡ true)
     active-stands h =
         let both = entry-met p t (eventAsking wanted n) own rest (whole p t n wanted) (refuses p t n wanted) first a opens asked h in
         let plan = agreement-holds p t (both .0) in
         let named = own-met (both .1) in
         (record { sound = plan .0; agrees = plan .1; met = named .0 }, named .1)
 
-module _ {p : Plan} {t : JobList} {n : ℕ} (s : Stands p t n) where
+module _ {p : Plan} {t : JobList} {n : ℕ} (s : StandsActive p t n) where
   pub active : isActive n (jobsOf t) ≡ true
   active = name-holds (jobsOf t) n (s .met)
 
@@ -126,7 +126,7 @@ module _ {p : Plan} {t : JobList} {n : ℕ} (s : Stands p t n) where
   here : Active n (jobsOf t)
   here = holds (decides-active n (jobsOf t)) active
 
-  found : Found p n (jobsOf t) here
+  found : FoundJob p n (jobsOf t) here
   found = names p (s .sound) (jobsOf t) (s .agrees .jobs) n here
 
   abbrev pub job : Job

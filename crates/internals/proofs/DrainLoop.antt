@@ -15,7 +15,7 @@ use Rattle.model.specs.declared.Job.{Job}
 use Rattle.events.specs.JobList.{jobsOf, listOf, Agrees, agrees}
 use Rattle.events.specs.Events.{answerNumbers, isAdmitted, agreement, answer, jobsAfter, listAfter}
 use Rattle.events.specs.Drain.{moveOf, isEmpty, stopped, oneMore, drainFrom, listDrain}
-use Rattle.internals.specs.Parts.{earliestPosition}
+use Rattle.internals.specs.Internals.{earliestPosition}
 use Rattle.events.specs.declared.JobList.{JobList}
 use Rattle.events.specs.declared.Event.{Event}
 use Rattle.events.specs.declared.Answer.{Answer}
@@ -29,20 +29,20 @@ use Rattle.internals.proofs.QuestionParts.{is-admitted}
 use Rattle.internals.proofs.EarliestMove.{earliest-none, earliest-some, movable-there}
 
 -- a drain with so many moves made before it
-abbrev pub after : ℕ → ListDrained → ListDrained
-after m d = record { end = d .end; moves = m + d .moves; list = d .list }
+abbrev pub afterMoves : ℕ → ListDrained → ListDrained
+afterMoves m d = record { end = d .end; moves = m + d .moves; list = d .list }
 
 same-moves : (d : ListDrained) (m : ℕ) → d .moves ≡ m → d ≡ record { end = d .end; moves = m; list = d .list }
 same-moves d m e = λ i. record { end = d .end; moves = e i; list = d .list }
 
-pub after-none : (d : ListDrained) → d ≡ after 0 d
-after-none d = same-moves d (0 + d .moves) (omega arith)
+pub after-no-move : (d : ListDrained) → d ≡ afterMoves 0 d
+after-no-move d = same-moves d (0 + d .moves) (omega arith)
 
-pub after-stopped : (m : ℕ) (d : ListDrained) → d .moves ≡ 0 → after m d ≡ record { end = d .end; moves = m; list = d .list }
-after-stopped m d e = same-moves (after m d) m (omega (arith, e))
+pub after-stopped : (m : ℕ) (d : ListDrained) → d .moves ≡ 0 → afterMoves m d ≡ record { end = d .end; moves = m; list = d .list }
+after-stopped m d e = same-moves (afterMoves m d) m (omega (arith, e))
 
-pub after-more : (m : ℕ) (d : ListDrained) → after m (oneMore d) ≡ after (m + 1) d
-after-more m d = same-moves (after m (oneMore d)) (m + 1 + d .moves) (omega arith)
+pub after-more : (m : ℕ) (d : ListDrained) → afterMoves m (oneMore d) ≡ afterMoves (m + 1) d
+after-more m d = same-moves (afterMoves m (oneMore d)) (m + 1 + d .moves) (omega arith)
 
 empty-list : (js : List Job) → length js ≡ 0 → isEmpty js ≡ true
 empty-list [] h = refl

@@ -28,10 +28,10 @@ use Rattle.events.specs.declared.JobList.{JobList}
 use Rattle.events.specs.declared.Event.{Event}
 use Rattle.events.specs.declared.Event.the-variants.{Advance, Unload}
 use Rattle.events.specs.declared.Answer.the-variants.{Admitted}
-use Rattle.internals.specs.Parts.{sumsOf, ceilingsOf, keptAfter, positionOf, withReplaced, withoutJob, firstMovable}
+use Rattle.internals.specs.Internals.{sumsOf, ceilingsOf, keptAfter, positionOf, withReplaced, withoutJob, firstMovable}
 use Rattle.internals.proofs.Positions.{position-active, position-job}
 use Rattle.internals.proofs.ListChanges.{count-is, advanced-list, removed-list}
-use Rattle.internals.proofs.ActiveQuestions.{Stands, job-staged, advance-goes, unload-goes}
+use Rattle.internals.proofs.ActiveQuestions.{StandsActive, job-staged, advance-goes, unload-goes}
 
 -- where numbers differ, the number of the job at a position is found at that position
 each-other : (n : ℕ) (js : List Job) (i : ℕ) → Each (λ (m : ℕ). m ≢ n) (numbers js) → i < length js → getD js i noJob .number ≢ n
@@ -70,7 +70,7 @@ module _ (p : Plan) (t : JobList) (sound : Sound p) (agrees : Agrees p t) (i : �
       position-active (job .number) (jobsOf t)
       ∙ lt-ltb (positionOf (job .number) (jobsOf t)) (length (jobsOf t)) (omega (arith, found, count-is p t agrees))
 
-  stands : Stands p t (job .number)
+  stands : StandsActive p t (job .number)
   stands =
       record {
         sound = sound;

@@ -20,7 +20,7 @@ use Rattle.events.specs.declared.JobList.{JobList}
 use Rattle.events.specs.declared.Answer.{Answer}
 use Rattle.events.specs.declared.Answer.the-variants.{Admitted, UnsoundPlan, Disagreement, OverCapacity, RowBroken}
 use Rattle.events.proofs.Answers.{admitted-or-not}
-use Rattle.internals.specs.Parts.{sumsOf, ceilingsOf, keptAfter, wellFormed, agreedWith, refusedWith, agreed}
+use Rattle.internals.specs.Internals.{sumsOf, ceilingsOf, keptAfter, wellFormed, agreedWith, refusedWith, agreed}
 use Rattle.internals.specs.declared.Agreement.{Agreement}
 use Rattle.internals.proofs.SumsAfter.{none-exchanged, kept-exchanged}
 

@@ -12,7 +12,7 @@ use lib.Seq.{getD-set-same, getD-set-other, getD-at, ext-getD}
 use borrow.Author.Tests.{ne-eqb, lt-leb}
 use Rattle.model.specs.Numbers.{InRange, at, sumTo, lowest, greatest}
 use Rattle.model.proofs.Decide.{decided, decides-le, extend}
-use Rattle.internals.specs.Parts.{tabulate}
+use Rattle.internals.specs.Internals.{tabulate}
 
 -- entry number i stands at position i - 1, and beyond the last there is 0
 module _ (xs : List ℕ) where

@@ -15,7 +15,7 @@ use Rattle.model.specs.Jobs.{noJob}
 use Rattle.model.specs.declared.Job.{Job}
 use Rattle.events.specs.JobList.{isNoJob}
 use Rattle.events.specs.declared.JobList.{JobList}
-use Rattle.plan_bytes.specs.Over.{part}
+use Rattle.plan_bytes.specs.Over.{bytesFrom}
 use Rattle.plan_bytes.proofs.Laid.{entries-length, entry-laid, tail-laid}
 use Rattle.plan_bytes.proofs.StageBytes.{part-entry}
 use Rattle.internals.specs.JobNumbers.{jobRead, jobsLaid, listOver}
@@ -28,7 +28,7 @@ pub job-laid : (xs : List ℕ) (i : ℕ) (d : Job) → i < maxJobs
 job-laid xs i d h =
     let e : 3 * i ≡ i * 3 = omega arith in
     let first : i * 3 + 0 ≡ i * 3 = omega arith in
-    let read : (k : ℕ) → k < 3 → getD (part (i * 3) 3 xs) k 0 ≡ getD xs (i * 3 + k) 0 = part-entry (i * 3) 3 xs in
+    let read : (k : ℕ) → k < 3 → getD (bytesFrom (i * 3) 3 xs) k 0 ≡ getD xs (i * 3 + k) 0 = part-entry (i * 3) 3 xs in
     entry-laid jobRead 3 maxJobs xs i d h
     ∙ rw e (λ j. record { number = (read 0 (omega arith) ∙ ap (λ n. getD xs n 0) first) j; kind = read 1 (omega arith) j; stage = read 2 (omega arith) j })
 

@@ -16,7 +16,7 @@ use Rattle.model.specs.declared.Job.{Job}
 use Rattle.events.specs.JobList.{jobsOf, listOf, Agrees}
 use Rattle.events.specs.declared.JobList.{JobList}
 use Rattle.events.proofs.JobLists.{list-of-jobs}
-use Rattle.internals.specs.Parts.{positionOf, withJob, withReplaced, withoutJob}
+use Rattle.internals.specs.Internals.{positionOf, withJob, withReplaced, withoutJob}
 use Rattle.internals.proofs.Positions.{position-active, position-job, position-advanced, position-removed}
 
 -- a job list with the count and the slots of these jobs is theirs

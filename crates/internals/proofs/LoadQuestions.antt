@@ -22,7 +22,7 @@ use Rattle.events.specs.declared.JobList.{JobList}
 use Rattle.events.specs.declared.Event.the-variants.{Load}
 use Rattle.events.specs.declared.Answer.{Answer}
 use Rattle.events.specs.declared.Answer.the-variants.{Admitted, BadNumber, WrongActivity, UnknownType, Full}
-use Rattle.internals.specs.Parts.{sumsOf, ceilingsOf, keptAfter, positionOf, loadAnswer}
+use Rattle.internals.specs.Internals.{sumsOf, ceilingsOf, keptAfter, positionOf, loadAnswer}
 use Rattle.internals.proofs.SumsAfter.{added-exchanged, kept-exchanged}
 use Rattle.internals.proofs.QuestionParts.{by-position, by-count, Refusing, agreement-holds, first-met, met-part, entry-refused, entry-met}
 

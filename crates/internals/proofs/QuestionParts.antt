@@ -22,7 +22,7 @@ use Rattle.events.specs.declared.JobList.{JobList}
 use Rattle.events.specs.declared.Event.{Event}
 use Rattle.events.specs.declared.Answer.{Answer}
 use Rattle.events.specs.declared.Answer.the-variants.{Admitted, UnsoundPlan, Disagreement, BadNumber, WrongActivity}
-use Rattle.internals.specs.Parts.{positionOf}
+use Rattle.internals.specs.Internals.{positionOf}
 use Rattle.internals.proofs.Positions.{position-active}
 use Rattle.internals.proofs.ListChanges.{count-is}
 use Rattle.events.proofs.JobLists.{decides-agrees}

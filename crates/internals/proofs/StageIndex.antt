@@ -17,7 +17,7 @@ use Rattle.model.specs.declared.Job.{Job}
 use Rattle.model.proofs.Decide.{Decides, holding, failing, fails, passes, decides-range, _and_}
 use Rattle.model.proofs.Flat as flat
 use Rattle.model.proofs.Flat.{flatIndex}
-use Rattle.internals.specs.Parts.{stageIndex, indexIn}
+use Rattle.internals.specs.Internals.{stageIndex, indexIn}
 use Rattle.internals.proofs.FixedWidth.{at-named}
 
 module _ (lengths : List ℕ) (types t k : ℕ) where

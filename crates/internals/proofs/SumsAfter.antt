@@ -23,7 +23,7 @@ use Rattle.model.proofs.Jobs.{row-test}
 use Rattle.model.proofs.Lists.{zeros-at, every-each}
 use Rattle.model.proofs.Sums.{over-jobs-append, over-jobs-moved, over-jobs-removed, over-jobs-zero}
 use Rattle.events.specs.Events.{keptAnswer}
-use Rattle.internals.specs.Parts.{tabulate, sumsOf, ceilingsOf, lowestAfter, greatestAfter, worstAfter, Exchanged, Exchange, RowTestApplies, keptAfter}
+use Rattle.internals.specs.Internals.{tabulate, sumsOf, ceilingsOf, lowestAfter, greatestAfter, worstAfter, Exchanged, Exchange, RowTestApplies, keptAfter}
 use Rattle.internals.specs.declared.Sums.{Sums}
 use Rattle.internals.specs.declared.Ceilings.{Ceilings}
 use Rattle.internals.specs.declared.WorstRow.{WorstRow}

@@ -20,7 +20,7 @@ use Rattle.model.proofs.Lists.{replicated}
 use Rattle.model.proofs.Sums.{over-jobs-append}
 use Rattle.events.specs.JobList.{jobsOf}
 use Rattle.events.specs.declared.JobList.{JobList}
-use Rattle.internals.specs.Parts.{tabulate, Few, Added, sumsOf, noSums}
+use Rattle.internals.specs.Internals.{tabulate, Few, Added, sumsOf, noSums}
 use Rattle.internals.specs.declared.Sums.{Sums}
 use Rattle.internals.proofs.FixedWidth.{tabulated}
 

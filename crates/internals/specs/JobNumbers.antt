@@ -11,7 +11,7 @@ use Rattle.events.specs.declared.Answer.{Answer}
 use Rattle.events.specs.declared.JobList.{JobList}
 use Rattle.events.specs.declared.ListOutcome.{ListOutcome}
 use Rattle.plan_bytes.specs.Over.{entriesIn}
-use Rattle.internals.specs.Parts.{withJob, withReplaced, withoutJob}
+use Rattle.internals.specs.Internals.{withJob, withReplaced, withoutJob}
 use Rattle.internals.specs.declared.Change.{Change}
 use Rattle.internals.specs.declared.Change.the-variants.{Nothing, Added, Moved, Removed}
 use Rattle.internals.specs.declared.Judgement.{Judgement}

@@ -1,3 +1,3 @@
 -- What the inner functions compute, for their contracts and proofs alone.
-pub mod Parts
+pub mod Internals
 pub mod JobNumbers

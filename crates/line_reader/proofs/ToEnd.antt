@@ -10,9 +10,9 @@ use denote.Ref.{RefT, now}
 use lib.ListN.{length, drop}
 use Rattle.model.proofs.Decide.{decided, decides-lt}
 use Rattle.plan_text.specs.Lines.{Line, linesOf}
-use Rattle.plan_text.specs.declared.LinePlace.{LinePlace}
+use Rattle.plan_text.specs.declared.LineSpan.{LineSpan}
 use Rattle.plan_text.proofs.LineByLine.{no-line}
-use Rattle.plan_text.proofs.LineReading.{place-over, place-there, line-read, next-further, over-told, left-told}
+use Rattle.plan_text.proofs.LineReading.{span-over, span-there, line-read, next-further, over-told, left-told}
 use Rattle.line_reader.specs.LineReads.{atStart, readNext, readOn, ReadToEnd}
 use Rattle.line_reader.specs.LineReads.ReadToEnd.{over, line}
 use Rattle.line_reader.specs.declared.LineReader.{LineReader}
@@ -38,7 +38,7 @@ read-left (line {r} e more) =
 
 -- reading comes to the end: n is at least how many bytes are left
 at-end : (r : LineReader) → length (now (r .text)) ≤ r .at → ReadToEnd r (left r)
-at-end r h = rw (no-line (now (r .text)) (r .at) h) (over (ap (λ (p : LinePlace). p .over) (place-over (now (r .text)) (r .at) h)))
+at-end r h = rw (no-line (now (r .text)) (r .at) h) (over (ap (λ (p : LineSpan). p .over) (span-over (now (r .text)) (r .at) h)))
 
 reads-on : (n : ℕ) (r : LineReader) → length (now (r .text)) - r .at ≤ n → ReadToEnd r (left r)
 reads-on zero r h = at-end r (omega arith)
@@ -46,7 +46,7 @@ reads-on (suc n) r h =
     let text = now (r .text) in
     ⊎-elim
     (λ (there : r .at < length text).
-    let some : readNext r .over ≡ false = ap (λ (p : LinePlace). p .over) (place-there text (r .at) _ refl there) in
+    let some : readNext r .over ≡ false = ap (λ (p : LineSpan). p .over) (span-there text (r .at) _ refl there) in
     let less = less-left r some in
     rw (line-read text (r .at) _ refl there) (line some (reads-on n (readOn r) (omega arith))))
     (λ (none : ¬ (r .at < length text)). at-end r (omega arith))

@@ -5,7 +5,7 @@ use mathlib.Core.List.{List, [], _∷_}
 use mathlib.Core.Path.{_≡_}
 use denote.Ref.{RefT, now}
 use Rattle.plan_text.specs.Lines.{Line}
-use Rattle.plan_text.specs.LineReading.{placeFrom, lineFrom}
+use Rattle.plan_text.specs.LineReading.{spanFrom, lineFrom}
 use Rattle.plan_text.specs.TextParts.{IsPart}
 use Rattle.line_reader.specs.declared.LineReader.{LineReader}
 use Rattle.line_reader.specs.declared.TextLine.{TextLine}
@@ -25,15 +25,15 @@ atStart text = record { text = text; at = 0 }
 
 -- what a reader reads next, and the reader after that
 abbrev pub readNext : LineReader → Read
-readNext r = let text = now (r .text) in record { line = lineFrom text (r .at); over = placeFrom text (r .at) .over }
+readNext r = let text = now (r .text) in record { line = lineFrom text (r .at); over = spanFrom text (r .at) .over }
 
 abbrev pub readOn : LineReader → LineReader
-readOn r = record { text = r .text; at = placeFrom (now (r .text)) (r .at) .next }
+readOn r = record { text = r .text; at = spanFrom (now (r .text)) (r .at) .next }
 
 -- what `next` does: it says what is read next, in a line that is a part of the held text, and leaves the reader behind that line
 pub record Reads (before : LineReader) (l : TextLine) (after : LineReader) : Type 0 where
   pub said : readOf l ≡ readNext before
-  pub part : IsPart (before .text) (before .at) (placeFrom (now (before .text)) (before .at) .end) (l .bytes)
+  pub part : IsPart (before .text) (before .at) (spanFrom (now (before .text)) (before .at) .end) (l .bytes)
   pub moved : after ≡ readOn before
 
 -- read on until its text is at its end, the reader has read these lines

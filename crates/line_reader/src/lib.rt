@@ -30,13 +30,13 @@ impl<'a> LineReader<'a> {
     {
         let text = self.text;
         let at = self.at;
-        let place = line_at(text, at);
-        let bytes = part_of(text, at, place.end);
-        self.at = place.next;
+        let span = line_at(text, at);
+        let bytes = part_of(text, at, span.end);
+        self.at = span.next;
         TextLine {
             bytes,
-            ended: place.ended,
-            over: place.over,
+            ended: span.ended,
+            over: span.over,
         }
     }
 }

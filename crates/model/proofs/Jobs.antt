@@ -66,13 +66,13 @@ distinct-added (x ∷ js) j n h = (
     other e = n (record { here = split-first x js; numbered = sym e })
 
 -- the job that a number names, and the lists after its advance and its removal
-pub record Found (p : Plan) (n : ℕ) (js : List Job) (a : Active n js) : Type 0 where
+pub record FoundJob (p : Plan) (n : ℕ) (js : List Job) (a : Active n js) : Type 0 where
   pub job : jobOf n js ≡ a .here .item
   pub advance : advanced p n js ≡ a .here .before ++ advancedJob p (a .here .item) ∷ a .here .after
   pub removal : removed n js ≡ a .here .before ++ a .here .after
 
 found-at : (p : Plan) (xs : List Job) (j : Job) (ys : List Job) → Distinct (numbers (xs ++ j ∷ ys))
-    → Found p (j .number) (xs ++ j ∷ ys) (record { here = split-at xs j ys; numbered = refl })
+    → FoundJob p (j .number) (xs ++ j ∷ ys) (record { here = split-at xs j ys; numbered = refl })
 found-at p [] j ys h =
     record {
       job = rw (eq-eqb (j .number) (j .number) refl) refl;
@@ -89,7 +89,7 @@ found-at p (x ∷ xs) j ys h =
       removal = rw miss (ap (λ (js : List Job). x ∷ js) (rest .removal));
     }
 
-pub found : (p : Plan) {n : ℕ} {js : List Job} (a : Active n js) → Distinct (numbers js) → Found p n js a
+pub found : (p : Plan) {n : ℕ} {js : List Job} (a : Active n js) → Distinct (numbers js) → FoundJob p n js a
 found p {n} {js} a d =
     let f = found-at p (a .here .before) (a .here .item) (a .here .after) (subst (λ (js : List Job). Distinct (numbers js)) (a .here .whole) d) in
     record {

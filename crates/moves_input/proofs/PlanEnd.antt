@@ -24,7 +24,7 @@ length-one [] h = absurd (omega arith)
 length-one (b ∷ []) h = refl
 length-one (b ∷ c ∷ bs) h = absurd (omega arith)
 
--- the bytes before a place, all of them where it is past the end, and those of the lines from there to the mark
+-- the bytes before an offset, all of them where it is past the end, and those of the lines from there to the mark
 abbrev pub planFrom : List ℕ → ℕ → ℕ
 planFrom input at = at - (at - length input) + lengthBefore (linesOf (drop at input))
 

@@ -5,7 +5,7 @@ ghost use lib.ListN.{length};
 ghost use Rattle.events.specs.JobList.{emptyList};
 ghost use Rattle.plan_bytes.specs.Over.{planOver};
 ghost use Rattle.moves_text.specs.Output.{toPrint, output};
-ghost use Rattle.moves_text.specs.Space.{filled, lengthFilled, overlaid, overlaidAt};
+ghost use Rattle.moves_text.specs.Buffer.{filled, lengthFilled, overlaid, overlaidAt};
 use admission::Table;
 use moves_head::put_about;
 use moves_input::event_of;
@@ -21,14 +21,14 @@ use table_numbers::answer_place;
 use write_lines::put_event_line;
 use write_lines::put_plan_line;
 
-// A space of so many bytes is enough for every output.
+// A buffer of so many bytes is enough for every output.
 pub const ENOUGH: usize = 491526;
 
-// The lines of the events, each answered at the table that the ones before it left; the place after them.
-fn put_replies(events: &[u8], frame: Frame, stages: &[u8], space: &mut [u8], start: usize) -> usize
+// The lines of the events, each answered at the table that the ones before it left; the offset after them.
+fn put_replies(events: &[u8], frame: Frame, stages: &[u8], buffer: &mut [u8], start: usize) -> usize
     requires { ⌜ (length (now events) ≤ 65536) × (start ≤ 65536) ⌝ }
     ensures { λ r. ⌜ (let out = toPrint (planOver frame (now (stages .entry))) emptyList 1 (now (events .entry)) in
-        (r ≡ start + length out) × (now (space .exit) ≡ overlaidAt start out (now (space .entry)))) ⌝ }
+        (r ≡ start + length out) × (now (buffer .exit) ≡ overlaidAt start out (now (buffer .entry)))) ⌝ }
 {
     let mut table = Table::empty();
     let mut ordinal: u32 = 1;
@@ -42,7 +42,7 @@ fn put_replies(events: &[u8], frame: Frame, stages: &[u8], space: &mut [u8], sta
             EventLine::Skipped => {}
             EventLine::Malformed => {
                 let active = table.list.count as u32;
-                put += put_event_line(ordinal, 41, 0, active, space, put);
+                put += put_event_line(ordinal, 41, 0, active, buffer, put);
                 ordinal += 1;
             }
             EventLine::Given(event) => {
@@ -53,7 +53,7 @@ fn put_replies(events: &[u8], frame: Frame, stages: &[u8], space: &mut [u8], sta
                 let active = after.list.count as u32;
                 let number = answer_number(answer);
                 let place = answer_place(answer);
-                put += put_event_line(ordinal, number, place, active, space, put);
+                put += put_event_line(ordinal, number, place, active, buffer, put);
                 ordinal += 1;
                 table = after;
             }
@@ -63,11 +63,11 @@ fn put_replies(events: &[u8], frame: Frame, stages: &[u8], space: &mut [u8], sta
 }
 
 // As much of the output as fits, and the length of all of it.
-fn put_output(input: &[u8], space: &mut [u8]) -> usize
-    ensures { λ r. ⌜ (r ≡ length (output (now (input .entry)))) × (now (space .exit) ≡ overlaid (output (now (input .entry))) (now (space .entry))) ⌝ }
+fn put_output(input: &[u8], buffer: &mut [u8]) -> usize
+    ensures { λ r. ⌜ (r ≡ length (output (now (input .entry)))) × (now (buffer .exit) ≡ overlaid (output (now (input .entry))) (now (buffer .entry))) ⌝ }
 {
     if 65536 < input.len() {
-        return put_plan_line(1, 0, space, 0);
+        return put_plan_line(1, 0, buffer, 0);
     }
     let n = plan_length(input);
     let first = n + 2;
@@ -75,12 +75,12 @@ fn put_output(input: &[u8], space: &mut [u8]) -> usize
     let answer = reading.answer;
     let frame = reading.frame;
     let stages = reading.stages;
-    let at = put_about(text_number(answer), reading.line, frame, &stages, space);
+    let at = put_about(text_number(answer), reading.line, frame, &stages, buffer);
     put_replies(
         part_of(input, first, input.len()),
         frame,
         &stages,
-        space,
+        buffer,
         at,
     )
 }
@@ -93,17 +93,17 @@ fn output_length(input: &[u8]) -> usize
     put_output(input, &mut scratch)
 }
 
-// The space then begins with the output, and the answer is its length. Where the output does not fit, the space is left as it is
-// and the answer is 0; a space shorter than `ENOUGH` costs a second run, which measures.
-pub fn answer_input(input: &[u8], space: &mut [u8]) -> usize
-    ensures { λ r. ⌜ (r ≡ lengthFilled (output (now (input .entry))) (now (space .entry))) × (now (space .exit) ≡ filled (output (now (input .entry))) (now (space .entry))) ⌝ }
+// The buffer then begins with the output, and the answer is its length. Where the output does not fit, the buffer is left as it is
+// and the answer is 0; a buffer shorter than `ENOUGH` costs a second run, which measures.
+pub fn answer_input(input: &[u8], buffer: &mut [u8]) -> usize
+    ensures { λ r. ⌜ (r ≡ lengthFilled (output (now (input .entry))) (now (buffer .entry))) × (now (buffer .exit) ≡ filled (output (now (input .entry))) (now (buffer .entry))) ⌝ }
 {
-    if ENOUGH <= space.len() {
-        return put_output(input, space);
+    if ENOUGH <= buffer.len() {
+        return put_output(input, buffer);
     }
     let needed = output_length(input);
-    if space.len() < needed {
+    if buffer.len() < needed {
         return 0;
     }
-    put_output(input, space)
+    put_output(input, buffer)
 }

@@ -7,7 +7,7 @@ use mathlib.Core.List.{List, [], _∷_, map}
 use mathlib.Core.Path.{_≡_, subst}
 use lib.ListN.{length, length-append}
 use Rattle.plan_text.specs.Lines.{lineEnd, splitBy, linesIn, linesOf}
-use Rattle.plan_text.proofs.Split.{joined, split-joined}
+use Rattle.plan_text.proofs.Split.{joinedBy, split-joined}
 use Rattle.moves_text.specs.Division.{isE, lengthBefore, planLength}
 use Rattle.moves_text.specs.EventLines.{eventIn, counted, countedIn}
 use Rattle.moves_text.specs.declared.EventLine.{EventLine}
@@ -15,10 +15,10 @@ use Rattle.moves_text.specs.declared.EventLine.the-variants.{Skipped, Ma
 
 -- one part more, with its LF
 joined-length : (p q : List ℕ) (ps : List (List ℕ))
-    → length (joined lineEnd (p ∷ q ∷ ps)) ≡ length p + suc (length (joined lineEnd (q ∷ ps)))
-joined-length p q ps = length-append p (lineEnd ∷ joined lineEnd (q ∷ ps))
+    → length (joinedBy lineEnd (p ∷ q ∷ ps)) ≡ length p + suc (length (joinedBy lineEnd (q ∷ ps)))
+joined-length p q ps = length-append p (lineEnd ∷ joinedBy lineEnd (q ∷ ps))
 
-lines-in-few : (ps : List (List ℕ)) → length (linesIn ps) ≤ length (joined lineEnd ps)
+lines-in-few : (ps : List (List ℕ)) → length (linesIn ps) ≤ length (joinedBy lineEnd ps)
 lines-in-few [] = omega arith
 lines-in-few ([] ∷ []) = omega arith
 lines-in-few ((b ∷ bs) ∷ []) = omega arith
@@ -29,14 +29,14 @@ lines-few text =
     subst (λ (bytes : List ℕ). length (linesOf text) ≤ length bytes) (split-joined lineEnd text) (lines-in-few (splitBy lineEnd text))
 
 -- so the plan is within the input
-before-few : (ps : List (List ℕ)) → lengthBefore (linesIn ps) ≤ length (joined lineEnd ps)
+before-few : (ps : List (List ℕ)) → lengthBefore (linesIn ps) ≤ length (joinedBy lineEnd ps)
 before-few [] = omega arith
 before-few ([] ∷ []) = omega arith
 before-few ((b ∷ bs) ∷ []) = omega arith
 before-few (p ∷ q ∷ ps) = step (isE p) (before-few (q ∷ ps))
   where
-    step : (mark : Bool) → lengthBefore (linesIn (q ∷ ps)) ≤ length (joined lineEnd (q ∷ ps))
-        → cond mark 0 (length p + 1 + lengthBefore (linesIn (q ∷ ps))) ≤ length (joined lineEnd (p ∷ q ∷ ps))
+    step : (mark : Bool) → lengthBefore (linesIn (q ∷ ps)) ≤ length (joinedBy lineEnd (q ∷ ps))
+        → cond mark 0 (length p + 1 + lengthBefore (linesIn (q ∷ ps))) ≤ length (joinedBy lineEnd (p ∷ q ∷ ps))
     step true h = omega arith
     step false h = omega (arith, joined-length p q ps)
 
@@ -50,7 +50,7 @@ counted-more Skipped ls = omega arith
 counted-more Malformed ls = omega arith
 counted-more (Given e) ls = omega arith
 
-counted-in-few : (ps : List (List ℕ)) → 2 * length (counted (map eventIn (linesIn ps))) ≤ length (joined lineEnd ps) + 1
+counted-in-few : (ps : List (List ℕ)) → 2 * length (counted (map eventIn (linesIn ps))) ≤ length (joinedBy lineEnd ps) + 1
 unfolding eventIn
 counted-in-few [] = omega arith
 counted-in-few ([] ∷ []) = omega arith

@@ -11,7 +11,7 @@ use lib.Seq.{take-all, take-append-seam, take-append-add, drop-append-add}
 use borrow.Author.Tests.{eqb-true}
 use Rattle.model.specs.Numbers.{Each}
 use Rattle.plan_text.specs.Lines.{Line, lineEnd, splitBy, lastLine, linesIn, linesOf}
-use Rattle.plan_text.proofs.Split.{joined, split-some, split-joined, split-clean, split-alone, split-then}
+use Rattle.plan_text.proofs.Split.{joinedBy, split-some, split-joined, split-clean, split-alone, split-then}
 use Rattle.plan_text.proofs.LineByLine.{line-then}
 use Rattle.moves_text.specs.Quoted.{quoted}
 use Rattle.moves_text.specs.Division.{eventsMark, Divides, isE, isMark, lengthBefore, planLength, planPart, eventPart}
@@ -81,11 +81,11 @@ last-divided (b ∷ bs) clean =
       first = rw (all, lines-alone p clean) (λ e. false≢true (ap (λ (l : Line). l .ended) e), tt);
     })
 
-parts-divided : (ps : List (List ℕ)) → Each Clean ps → Divided (lengthBefore (linesIn ps)) (joined lineEnd ps)
+parts-divided : (ps : List (List ℕ)) → Each Clean ps → Divided (lengthBefore (linesIn ps)) (joinedBy lineEnd ps)
 parts-divided [] clean = last-divided [] tt
 parts-divided (p ∷ []) clean = last-divided p (clean .0)
 parts-divided (p ∷ q ∷ ps) clean =
-    next-divided p (joined lineEnd (q ∷ ps)) (clean .0) (lengthBefore (linesIn (q ∷ ps))) (parts-divided (q ∷ ps) (clean .1)) (isE p) refl
+    next-divided p (joinedBy lineEnd (q ∷ ps)) (clean .0) (lengthBefore (linesIn (q ∷ ps))) (parts-divided (q ∷ ps) (clean .1)) (isE p) refl
 
 pub input-divided : (input : List ℕ) → Divides input (planPart input) (eventPart input)
 unfolding planLength
@@ -100,10 +100,10 @@ last-size : (p : List ℕ) → bytesIn (lastLine p) ≡ length p
 last-size [] = refl
 last-size (b ∷ bs) = omega arith
 
-parts-size : (ps : List (List ℕ)) → bytesIn (linesIn ps) ≡ length (joined lineEnd ps)
+parts-size : (ps : List (List ℕ)) → bytesIn (linesIn ps) ≡ length (joinedBy lineEnd ps)
 parts-size [] = refl
 parts-size (p ∷ []) = last-size p
-parts-size (p ∷ q ∷ ps) = omega (arith, parts-size (q ∷ ps), length-append p (lineEnd ∷ joined lineEnd (q ∷ ps)))
+parts-size (p ∷ q ∷ ps) = omega (arith, parts-size (q ∷ ps), length-append p (lineEnd ∷ joinedBy lineEnd (q ∷ ps)))
 
 lines-size : (text : List ℕ) → bytesIn (linesOf text) ≡ length text
 lines-size text = rw (split-joined lineEnd text) at (parts-size (splitBy lineEnd text))

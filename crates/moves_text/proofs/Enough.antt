@@ -18,14 +18,14 @@ use Rattle.plan_text.specs.Lines.{lineEnd, tab}
 use Rattle.plan_text.specs.TextQuestions.{maxText, textNumber}
 use Rattle.plan_text.specs.Reading.{reading}
 use Rattle.moves_text.specs.Quoted.{quoted}
-use Rattle.moves_text.specs.Written.{decimal, lineWith}
+use Rattle.moves_text.specs.Decimals.{decimal, lineWith}
 use Rattle.moves_text.specs.Division.{planLength, planPart, eventPart}
 use Rattle.moves_text.specs.EventLines.{countedIn}
 use Rattle.moves_text.specs.OutputLines.{planLine, checkLine, eventLine, aboutCheck, aboutPlan, answerTo, listAfterLine}
 use Rattle.moves_text.specs.Output.{repliesTo, printedFrom, toPrint, output, enough}
 use Rattle.moves_text.proofs.Decimals.{decimal-short}
 use Rattle.moves_text.proofs.CountedFew.{counted-few}
-use Rattle.moves_text.proofs.Places.{active-few, answer-small, check-small, text-number-small, text-line-small}
+use Rattle.moves_text.proofs.Places.{active-few, answer-small, check-places-small, text-number-small, text-line-small}
 
 -- the bytes of fields, one more for what follows each
 abbrev widths : List (List ℕ) → ℕ
@@ -107,7 +107,7 @@ printed-short p t n (l ∷ ls) few room =
     )
 
 pub check-short : (p : Plan) → length (aboutCheck p) ≤ 11
-check-short p = let c = checkNumbers (check p) in check-line-short (c .0) (c .1) (c .2) (check-small p)
+check-short p = let c = checkNumbers (check p) in check-line-short (c .0) (c .1) (c .2) (check-places-small p)
 
 pub about-short : (text : List ℕ) → length (aboutPlan (reading text)) ≤ 10 + 11
 about-short text =

@@ -10,7 +10,7 @@ pub mod AfterRefusal
 pub mod CountedFew
 pub mod Places
 pub mod Enough
--- What serves the proofs of code: a text laid over a space piece by piece, event lines answered one after the other, and the parts
+-- What serves the proofs of code: a text laid over a buffer piece by piece, event lines answered one after the other, and the parts
 -- of the output.
 pub mod Overlays
 pub mod ReplySteps

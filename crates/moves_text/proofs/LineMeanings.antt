@@ -13,11 +13,11 @@ use Rattle.events.specs.declared.Event.{Event}
 use Rattle.events.specs.declared.Event.the-variants.{Load, Advance, Unload, Pull}
 use Rattle.model.specs.Numbers.{Each}
 use Rattle.model.proofs.Decide.{holds, passes, decides-eq, _and_}
-use Rattle.plan_text.specs.Lines.{Line, wider, tab, hash, isSkipped, parts, letterIn, letterByte, fieldsIn}
-use Rattle.plan_text.specs.Records.{IsNumber, fieldsRead}
+use Rattle.plan_text.specs.Lines.{Line, wider, tab, hash, isSkipped, columns, letterIn, letterByte, fieldsIn}
+use Rattle.plan_text.specs.Records.{IsNumeral, fieldsRead}
 use Rattle.plan_text.proofs.Split.{split-some}
 use Rattle.plan_text.proofs.LineForm.{decides-number, decides-numbers}
-use Rattle.moves_text.specs.EventLines.{Says, Writes, Means, eventWith, eventIn}
+use Rattle.moves_text.specs.EventLines.{FieldSays, LineSays, Means, eventWith, eventIn}
 use Rattle.moves_text.specs.declared.EventLine.{EventLine}
 use Rattle.moves_text.specs.declared.EventLine.the-variants.{Skipped, Malformed, Given}
 
@@ -31,7 +31,7 @@ letter-told (c ∷ d ∷ p) b e = absurd (omega arith)
 record Lettered (ps : List (List ℕ)) (letter m : ℕ) : Type 0 where
   head : letterIn ps ≡ letter ∷ []
   many : length (fieldsIn ps) ≡ m
-  each : Each IsNumber (fieldsIn ps)
+  each : Each IsNumeral (fieldsIn ps)
 
 -- what is read of parts: the numbers, the test of an event, and the event
 abbrev number : List (List ℕ) → ℕ → ℕ
@@ -50,14 +50,14 @@ lettered ps b m few e =
 
 -- the parts with one field and with two, and what is read of them
 one-field : (letter : ℕ) (ps : List (List ℕ)) → ps ≢ [] → Lettered ps letter 1
-    → (f : List ℕ) × (ps ≡ (letter ∷ []) ∷ f ∷ []) × Says f (number ps 0)
+    → (f : List ℕ) × (ps ≡ (letter ∷ []) ∷ f ∷ []) × FieldSays f (number ps 0)
 one-field letter [] some h = absurd (some refl)
 one-field letter (p ∷ []) some h = absurd (omega (arith, h .many))
 one-field letter (p ∷ f ∷ []) some h = (f, rw (h .head) refl, (h .each .0, rw (passes (decides-number f) (h .each .0)) refl))
 one-field letter (p ∷ f ∷ g ∷ fs) some h = absurd (omega (arith, h .many))
 
 two-fields : (letter : ℕ) (ps : List (List ℕ)) → ps ≢ [] → Lettered ps letter 2
-    → (f g : List ℕ) × (ps ≡ (letter ∷ []) ∷ f ∷ g ∷ []) × Says f (number ps 0) × Says g (number ps 1)
+    → (f g : List ℕ) × (ps ≡ (letter ∷ []) ∷ f ∷ g ∷ []) × FieldSays f (number ps 0) × FieldSays g (number ps 1)
 two-fields letter [] some h = absurd (some refl)
 two-fields letter (p ∷ []) some h = absurd (omega (arith, h .many))
 two-fields letter (p ∷ f ∷ []) some h = absurd (omega (arith, h .many))
@@ -71,13 +71,13 @@ two-fields letter (p ∷ f ∷ g ∷ k ∷ fs) some h = absurd (omega (arith, h 
 abbrev Told : List ℕ → EventLine → Type 0
 Told bytes Skipped = ⊥
 Told bytes Malformed = Unit {0}
-Told bytes (Given e) = Writes bytes e
+Told bytes (Given e) = LineSays bytes e
 
-event-read : (bytes : List ℕ) → Told bytes (eventOf (parts bytes))
+event-read : (bytes : List ℕ) → Told bytes (eventOf (columns bytes))
 event-read bytes = go (passed ps 76 2) (passed ps 65 1) (passed ps 85 1) (passed ps 88 1) refl refl refl refl
   where
     ps : List (List ℕ)
-    ps = parts bytes
+    ps = columns bytes
 
     go : (a b c d : Bool) → passed ps 76 2 ≡ a → passed ps 65 1 ≡ b → passed ps 85 1 ≡ c → passed ps 88 1 ≡ d
         → Told bytes
@@ -91,7 +91,7 @@ event-read bytes = go (passed ps 76 2) (passed ps 65 1) (passed ps 85 1) (passed
     go false false false false e k m w = tt
 
 -- and one that is written is read
-event-written : (bytes : List ℕ) (e : Event) → Writes bytes e → eventOf (parts bytes) ≡ Given e
+event-written : (bytes : List ℕ) (e : Event) → LineSays bytes e → eventOf (columns bytes) ≡ Given e
 event-written bytes (Load n t) (f, g, whole, says, also) =
     rw (whole, passes (decides-number f) (says .0), passes (decides-number g) (also .0), says .1, also .1) refl
 event-written bytes (Advance n) (f, whole, says) = rw (whole, passes (decides-number f) (says .0), says .1) refl
@@ -99,15 +99,15 @@ event-written bytes (Unload n) (f, whole, says) = rw (whole, passes (decides-num
 event-written bytes (Pull n) (f, whole, says) = rw (whole, passes (decides-number f) (says .0), says .1) refl
 
 -- the first byte of a skipped line's letter is `#`, if there is one, so it writes no event
-skipped-letter : (bytes : List ℕ) → isSkipped bytes ≡ true → getD (letterIn (parts bytes)) 0 hash ≡ hash
+skipped-letter : (bytes : List ℕ) → isSkipped bytes ≡ true → getD (letterIn (columns bytes)) 0 hash ≡ hash
 skipped-letter [] e = refl
-skipped-letter (b ∷ bs) e = rw (eqb-true b hash e) (widened (parts bs))
+skipped-letter (b ∷ bs) e = rw (eqb-true b hash e) (widened (columns bs))
   where
     widened : (ps : List (List ℕ)) → getD (letterIn (wider hash ps)) 0 hash ≡ hash
     widened [] = refl
     widened (p ∷ ps) = refl
 
-skipped-writes-none : (bytes : List ℕ) (e : Event) → isSkipped bytes ≡ true → ¬ Writes bytes e
+skipped-writes-none : (bytes : List ℕ) (e : Event) → isSkipped bytes ≡ true → ¬ LineSays bytes e
 skipped-writes-none bytes (Load n t) skipped h = omega (arith, rw (h .2) at (skipped-letter bytes skipped))
 skipped-writes-none bytes (Advance n) skipped h = omega (arith, rw (h .1) at (skipped-letter bytes skipped))
 skipped-writes-none bytes (Unload n) skipped h = omega (arith, rw (h .1) at (skipped-letter bytes skipped))
@@ -119,17 +119,17 @@ module _ (l : Line) where
   unfolding eventIn
   line-means = go (l .ended) (isSkipped (l .bytes)) refl refl
     where
-      found : (a : EventLine) → Told (l .bytes) a → ((e : Event) → Writes (l .bytes) e → a ≡ Given e)
+      found : (a : EventLine) → Told (l .bytes) a → ((e : Event) → LineSays (l .bytes) e → a ≡ Given e)
           → l .ended ≡ true → isSkipped (l .bytes) ≡ false → Means l a
       found Malformed told all ends kept =
           (λ h. false≢true (sym kept ∙ h .1), λ e h. let z : _≡_ {A = ℕ} 0 1 = cc (all e (h .1)) in omega arith)
       found (Given e) told all ends kept = (ends, told)
 
       go : (ends skipped : Bool) → l .ended ≡ ends → isSkipped (l .bytes) ≡ skipped
-          → Means l (cond ends (cond skipped Skipped (eventOf (parts (l .bytes)))) Malformed)
+          → Means l (cond ends (cond skipped Skipped (eventOf (columns (l .bytes)))) Malformed)
       go false b e k = (λ h. false≢true (sym e ∙ h .0), λ x h. false≢true (sym e ∙ h .0))
       go true true e k = (e, k)
-      go true false e k = found (eventOf (parts (l .bytes))) (event-read (l .bytes)) (event-written (l .bytes)) e k
+      go true false e k = found (eventOf (columns (l .bytes))) (event-read (l .bytes)) (event-written (l .bytes)) e k
 
   -- and no line means two things
   pub meaning-unique : (a b : EventLine) → Means l a → Means l b → a ≡ b

@@ -13,7 +13,7 @@ use Rattle.events.specs.JobList.{emptyList}
 use Rattle.plan_text.specs.TextQuestions.{maxText}
 use Rattle.plan_text.specs.Reading.{reading}
 use Rattle.plan_text.specs.declared.Reading.{Reading}
-use Rattle.moves_text.specs.Written.{decimal}
+use Rattle.moves_text.specs.Decimals.{decimal}
 use Rattle.moves_text.specs.Division.{planLength, planPart, eventPart}
 use Rattle.moves_text.specs.OutputLines.{planLine, aboutCheck, aboutText, aboutPlan}
 use Rattle.moves_text.specs.Output.{toPrint, output}

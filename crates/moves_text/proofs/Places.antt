@@ -30,7 +30,7 @@ use Rattle.events.specs.declared.Answer.the-variants.{Admitted}
 use Rattle.events.proofs.Answers.{admitted-or-not, admitted-holds, list-refused, agrees-after}
 use Rattle.plan_text.specs.Lines.{Line, linesOf}
 use Rattle.plan_text.specs.Records.{recordIn}
-use Rattle.plan_text.specs.Written.{Draft, emptyDraft, written}
+use Rattle.plan_text.specs.Draft.{Draft, emptyDraft, draftAfter}
 use Rattle.plan_text.specs.TextQuestions.{maxText, textNumber}
 use Rattle.plan_text.specs.Reading.{lineQuestions, isComplete, readFrom, reading}
 use Rattle.plan_text.specs.declared.TextAnswer.{TextAnswer}
@@ -137,9 +137,9 @@ module _ (p : Plan) (sound : Sound p) where
       omega (arith, sound .types, type-within, stage-small) in
       (omega arith, (places, (omega arith, (omega (arith, row-small), (omega (arith, bound-small), tt)))))
 
-pub check-small : (p : Plan) → SmallCheck (check p)
+pub check-places-small : (p : Plan) → SmallCheck (check p)
 unfolding check
-check-small p =
+check-places-small p =
     either-where SmallCheck _ _ (decides-sound p)
     (λ sound. answer-of SmallCheck Meets (laterQuestions p) (omega arith) (later-refusals p sound)) (omega arith)
 
@@ -158,7 +158,7 @@ read-line : (n from : ℕ) (d : Draft) (ls : List Line) → readFrom n from d ls
 read-line n from d [] = either (λ (r : Reading). r .line ≤ n + 0 + 1) (isComplete d) _ _ (omega arith) (omega arith)
 read-line n from d (l ∷ ls) =
     answer-of (λ (r : Reading). r .line ≤ n + suc (length ls) + 1) _ (lineQuestions (n + 1) from d l)
-    (omega (arith, read-line (n + 1) (from + length (l .bytes) + 1) (written d (recordIn (l .bytes))) ls))
+    (omega (arith, read-line (n + 1) (from + length (l .bytes) + 1) (draftAfter d (recordIn (l .bytes))) ls))
     (omega arith, (omega arith, (omega arith, (omega arith, (omega arith, (omega arith, tt))))))
 
 pub text-line-small : (text : List ℕ) → reading text .line < 100000

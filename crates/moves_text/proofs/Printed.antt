@@ -19,7 +19,7 @@ use Rattle.plan_text.specs.Reading.{reading}
 use Rattle.moves_text.specs.Division.{planPart, eventPart}
 use Rattle.moves_text.specs.EventLines.{countedIn, eventsIn}
 use Rattle.moves_text.specs.OutputLines.{eventLine, aboutPlan, listAfterLine}
-use Rattle.moves_text.specs.Prints.{joined, tableAfter, lineOf, Answered, Prints}
+use Rattle.moves_text.specs.Prints.{concatenated, tableAfter, lineFor, Answered, Prints}
 use Rattle.moves_text.specs.Output.{Reply, replyTo, repliesTo, printedFrom, output}
 use Rattle.moves_text.proofs.Divided.{input-divided}
 use Rattle.moves_text.proofs.Replies.{repliesIn, events-parts, list-parts, list-after, replies-parts, replies-length}
@@ -32,7 +32,7 @@ abbrev linesFrom : ℕ → List Reply → List (List ℕ)
 linesFrom n [] = []
 linesFrom n (r ∷ rs) = replyLine n r ∷ linesFrom (n + 1) rs
 
-lines-joined : (n : ℕ) (rs : List Reply) → printedFrom n rs ≡ joined (linesFrom n rs)
+lines-joined : (n : ℕ) (rs : List Reply) → printedFrom n rs ≡ concatenated (linesFrom n rs)
 lines-joined n [] = refl
 lines-joined n (r ∷ rs) = ap (λ out. replyLine n r ++ out) (lines-joined (n + 1) rs)
 
@@ -60,13 +60,13 @@ module _ (p : Plan) where
       ∙ list-after p (tableAfter p before) l []
 
   reply-printed : (before : List (Option Event)) (l : Option Event)
-      → replyLine (1 + length (repliesTo p emptyList before)) (replyTo p (tableAfter p before) l) ≡ lineOf p before l
+      → replyLine (1 + length (repliesTo p emptyList before)) (replyTo p (tableAfter p before) l) ≡ lineFor p before l
   reply-printed before l =
       let ordinal : 1 + length (repliesTo p emptyList before) ≡ length before + 1 = omega (arith, replies-length p emptyList before) in
       rw (ordinal, after-line before l) refl
 
   line-printed : (before : List (Option Event)) (l : Option Event) (after : List (Option Event))
-      → entry (linesFrom 1 (repliesTo p emptyList (before ++ l ∷ after))) (length before + 1) [] ≡ lineOf p before l
+      → entry (linesFrom 1 (repliesTo p emptyList (before ++ l ∷ after))) (length before + 1) [] ≡ lineFor p before l
   line-printed before l after =
       let early = repliesTo p emptyList before in
       let late = repliesTo p (tableAfter p before) (l ∷ after) in

@@ -25,12 +25,12 @@ use Rattle.plan_text.specs.declared.TextAnswer.the-variants.{Accepted, TooLong,
 use Rattle.plan_text.specs.declared.Reading.{Reading}
 use Rattle.plan_text.proofs.AcceptedText.{accepted-whole}
 use Rattle.moves_text.specs.Quoted.{quoted}
-use Rattle.moves_text.specs.Written.{decimal}
+use Rattle.moves_text.specs.Decimals.{decimal}
 use Rattle.moves_text.specs.Division.{planPart, eventPart}
 use Rattle.moves_text.specs.EventLines.{countedIn, eventsIn}
 use Rattle.moves_text.specs.OutputLines.{aboutCheck, aboutPlan, planLine, checkLine}
 use Rattle.moves_text.specs.Output.{Reply, repliesTo, printedFrom, output}
-use Rattle.moves_text.specs.PrintedRule.{metLines, said, zeros, lastActive, PrintedTheorem}
+use Rattle.moves_text.specs.PrintedRule.{metLines, said, admittedReplies, lastActive, PrintedTheorem}
 use Rattle.moves_text.proofs.Replies.{repliesIn, events-parts, list-parts, replies-parts, replies-length, answers-printed, zeros-admitted, active-last}
 
 -- a `P` line and a `Q` line whose first digit is 0
@@ -133,7 +133,7 @@ printed-theorem input rest begins first last parts moves =
     end : State
     end = run p (run p start (eventsIn first)) (eventsIn last)
 
-    rule : EmptyingRule p (run p start (eventsIn first)) end (zeros late)
+    rule : EmptyingRule p (run p start (eventsIn first)) end (admittedReplies late)
     rule = rw (zeros-admitted p between last) (emptying-passed p (met-passed input rest begins) (eventsIn first) (eventsIn last) moves)
 
     active : lastActive (repliesIn input) ≡ length (end .ledger .jobs)

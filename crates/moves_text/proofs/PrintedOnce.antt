@@ -7,11 +7,11 @@ use mathlib.Core.Path.{_≡_, refl, sym, ap, _∙_}
 use lib.ListN.{length, getD, length-append}
 use Rattle.model.specs.Numbers.{Each}
 use Rattle.plan_text.specs.Lines.{lineEnd, tab}
-use Rattle.plan_text.specs.Records.{Digit, numberOn}
-use Rattle.moves_text.specs.Written.{decimal, lineWith}
+use Rattle.plan_text.specs.Records.{Digit, valueOn}
+use Rattle.moves_text.specs.Decimals.{decimal, lineWith}
 use Rattle.moves_text.specs.OutputLines.{eventLine}
 use Rattle.moves_text.specs.Output.{Reply, printedFrom}
-use Rattle.moves_text.proofs.Decimals.{decimal-spells}
+use Rattle.moves_text.proofs.Decimals.{decimal-is}
 
 first : List ℕ → ℕ
 first bs = getD bs 0 0
@@ -33,11 +33,11 @@ digits-same s low (b ∷ p) (c ∷ q) x y dp dq e =
 -- a number and the byte after it, at the head of what is printed
 field-same : (s : ℕ) → s ≤ 47 → (n m : ℕ) (k l x y : List ℕ) → decimal n ++ s ∷ k ++ x ≡ decimal m ++ s ∷ l ++ y → (n ≡ m) × (k ++ x ≡ l ++ y)
 field-same s low n m k l x y e =
-    let spelt = decimal-spells n in
-    let other = decimal-spells m in
+    let spelt = decimal-is n in
+    let other = decimal-is m in
     let flat : decimal n ++ s ∷ (k ++ x) ≡ decimal m ++ s ∷ (l ++ y) = sym (append-assoc (decimal n) (s ∷ k) x) ∙ e ∙ append-assoc (decimal m) (s ∷ l) y in
     let same = digits-same s low (decimal n) (decimal m) (k ++ x) (l ++ y) (spelt .1) (other .1) flat in
-    (sym (spelt .2) ∙ ap (numberOn 0) (same .0) ∙ other .2, same .1)
+    (sym (spelt .2) ∙ ap (valueOn 0) (same .0) ∙ other .2, same .1)
 
 line-same : (n : ℕ) (r q : Reply) (x y : List ℕ)
     → eventLine n (r .number) (r .place) (r .active) ++ x ≡ eventLine n (q .number) (q .place) (q .active) ++ y → (r ≡ q) × (x ≡ y)

@@ -20,7 +20,7 @@ use Rattle.emptying.specs.Run.{listAfterAll, answers, admittedCount}
 use Rattle.moves_text.specs.EventLines.{countedIn, eventsIn}
 use Rattle.moves_text.specs.OutputLines.{listAfterLine}
 use Rattle.moves_text.specs.Output.{Reply, replyTo, repliesTo}
-use Rattle.moves_text.specs.PrintedRule.{said, zeros, lastActive}
+use Rattle.moves_text.specs.PrintedRule.{said, admittedReplies, lastActive}
 use Rattle.plan_text.specs.Reading.{reading}
 use Rattle.moves_text.specs.Division.{planPart, eventPart}
 
@@ -76,7 +76,7 @@ module _ (p : Plan) where
   answers-printed t (some e ∷ ls) =
       rw (no-malformed (answer p t e)) (ap (λ ns. answerNumbers (answer p t e) ∷ ns) (answers-printed (listAfter p t e) ls))
 
-  pub zeros-admitted : (t : JobList) (ls : List (Option Event)) → zeros (repliesTo p t ls) ≡ admittedCount (answers p t (eventsIn ls))
+  pub zeros-admitted : (t : JobList) (ls : List (Option Event)) → admittedReplies (repliesTo p t ls) ≡ admittedCount (answers p t (eventsIn ls))
   zeros-admitted t [] = refl
   zeros-admitted t (none ∷ ls) = omega (arith, zeros-admitted t ls)
   zeros-admitted t (some e ∷ ls) =

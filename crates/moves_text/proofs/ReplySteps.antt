@@ -19,7 +19,7 @@ use Rattle.plan_text.proofs.LineByLine.{end-within, line-here, no-line}
 use Rattle.moves_text.specs.EventLines.{eventIn, counted, countedIn}
 use Rattle.moves_text.specs.OutputLines.{eventLine, listAfterLine}
 use Rattle.moves_text.specs.Output.{replyTo, repliesTo, printedFrom, toPrint}
-use Rattle.moves_text.specs.Space.{overlaid, overlaidAt}
+use Rattle.moves_text.specs.Buffer.{overlaid, overlaidAt}
 use Rattle.moves_text.specs.declared.EventLine.{EventLine}
 use Rattle.moves_text.specs.declared.EventLine.the-variants.{Skipped}
 use Rattle.moves_text.proofs.Enough.{active-after, answered-small, event-line-short}
@@ -27,19 +27,19 @@ use Rattle.moves_text.proofs.Overlays.{overlaid-at-then}
 
 -- at the head of each turn: the text is read up to `at`, its lines so far are put from `start` on up to `put`, and n is the ordinal of
 -- the next
-pub record Going (p : Plan) (events lent : List ℕ) (start : ℕ) (t : JobList) (n put at : ℕ) (space : List ℕ) : Type 0 where
+pub record Replying (p : Plan) (events lent : List ℕ) (start : ℕ) (t : JobList) (n put at : ℕ) (buffer : List ℕ) : Type 0 where
   pub done : List ℕ
   pub whole : toPrint p emptyList 1 events ≡ done ++ toPrint p t n (drop at events)
   pub size : put ≡ start + length done
-  pub written : space ≡ overlaidAt start done lent
+  pub written : buffer ≡ overlaidAt start done lent
   pub few : t .count ≤ maxJobs
   pub ordinals : n ≤ at + 1
   pub within : at ≤ length events + 1
   pub short : length done ≤ 15 * n
 
-pub going-start : (p : Plan) (events lent : List ℕ) (start : ℕ) → Going p events lent start emptyList 1 start 0 lent
+pub replying-start : (p : Plan) (events lent : List ℕ) (start : ℕ) → Replying p events lent start emptyList 1 start 0 lent
 unfolding listOf
-going-start p events lent start =
+replying-start p events lent start =
     record {
       done = [];
       whole = refl;
@@ -51,7 +51,7 @@ going-start p events lent start =
       short = omega arith;
     }
 
-module _ (p : Plan) (events lent : List ℕ) (start : ℕ) (t : JobList) (n put at : ℕ) (space : List ℕ) (g : Going p events lent start t n put at space)
+module _ (p : Plan) (events lent : List ℕ) (start : ℕ) (t : JobList) (n put at : ℕ) (buffer : List ℕ) (g : Replying p events lent start t n put at buffer)
     (end : ℕ) (there : at < length events) (found : end ≡ at + indexOf lineEnd (slice at (length events) events)) where
   abbrev pub lineAt : Line
   lineAt = record { bytes = take (end - at) (drop at events); ended = ltb end (length events) }
@@ -66,7 +66,7 @@ module _ (p : Plan) (events lent : List ℕ) (start : ℕ) (t : JobList) (n put 
   bounds : (at ≤ end) × (end ≤ length events)
   bounds = end-within events at end found there
 
-  pub goes-past : eventIn lineAt ≡ Skipped → Going p events lent start t n put (end + 1) space
+  pub goes-past : eventIn lineAt ≡ Skipped → Replying p events lent start t n put (end + 1) buffer
   goes-past e =
       record {
         done = g .done;
@@ -91,7 +91,7 @@ module _ (p : Plan) (events lent : List ℕ) (start : ℕ) (t : JobList) (n put 
         event-line-short n (r .number) (r .place) (r .active) (omega (arith, g .ordinals)) (answered-small p t l) (omega arith)
 
     pub goes-on : length events ≤ 65536 → (u : JobList) → u ≡ listAfterLine p t l → (line : List ℕ) → line ≡ printedHere
-        → (k : ℕ) (next : List ℕ) → (k ≡ length line) × (next ≡ overlaidAt put line space) → Going p events lent start u (n + 1) (put + k) (end + 1) next
+        → (k : ℕ) (next : List ℕ) → (k ≡ length line) × (next ≡ overlaidAt put line buffer) → Replying p events lent start u (n + 1) (put + k) (end + 1) next
     goes-on room u after line same k next laid =
         record {
           done = g .done ++ printedHere;
@@ -103,8 +103,8 @@ module _ (p : Plan) (events lent : List ℕ) (start : ℕ) (t : JobList) (n put 
           size = omega (arith, g .size, laid .0, ap length same, length-append (g .done) printedHere);
           written =
               laid .1
-              ∙ ap (λ out. overlaidAt put out space) same
-              ∙ ap (λ at. overlaidAt at printedHere space) (g .size)
+              ∙ ap (λ out. overlaidAt put out buffer) same
+              ∙ ap (λ at. overlaidAt at printedHere buffer) (g .size)
               ∙ ap (overlaidAt (start + length (g .done)) printedHere) (g .written)
               ∙ overlaid-at-then start (g .done) printedHere lent;
           few = rw after (active-after p t l (g .few));
@@ -114,9 +114,9 @@ module _ (p : Plan) (events lent : List ℕ) (start : ℕ) (t : JobList) (n put 
         }
 
 -- at the end nothing is left to print
-pub all-printed : (p : Plan) (events lent : List ℕ) (start : ℕ) (t : JobList) (n put at : ℕ) (space : List ℕ) → Going p events lent start t n put at space
-    → length events ≤ at → (put ≡ start + length (toPrint p emptyList 1 events)) × (space ≡ overlaidAt start (toPrint p emptyList 1 events) lent)
-all-printed p events lent start t n put at space g over =
+pub all-printed : (p : Plan) (events lent : List ℕ) (start : ℕ) (t : JobList) (n put at : ℕ) (buffer : List ℕ) → Replying p events lent start t n put at buffer
+    → length events ≤ at → (put ≡ start + length (toPrint p emptyList 1 events)) × (buffer ≡ overlaidAt start (toPrint p emptyList 1 events) lent)
+all-printed p events lent start t n put at buffer g over =
     let none : countedIn (drop at events) ≡ [] = ap (λ ls. counted (map eventIn ls)) (no-line events at over) in
     let all : g .done ≡ toPrint p emptyList 1 events =
     sym (g .whole ∙ ap (λ ls. g .done ++ printedFrom n (repliesTo p t ls)) none ∙ append-nil (g .done)) in

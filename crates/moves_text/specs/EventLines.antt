@@ -8,23 +8,23 @@ use lib.Dec.{eqb}
 use lib.ListN.{getD}
 use Rattle.events.specs.declared.Event.{Event}
 use Rattle.events.specs.declared.Event.the-variants.{Load, Advance, Unload, Pull}
-use Rattle.plan_text.specs.Lines.{Line, linesOf, isSkipped, parts, letterIn, letterByte, fieldsIn}
-use Rattle.plan_text.specs.Records.{IsNumber, numberOn, fieldsRead}
+use Rattle.plan_text.specs.Lines.{Line, linesOf, isSkipped, columns, letterIn, letterByte, fieldsIn}
+use Rattle.plan_text.specs.Records.{IsNumeral, valueOn, fieldsRead}
 use Rattle.plan_text.specs.declared.Fields.{Fields}
 use Rattle.moves_text.specs.Quoted.{quoted}
 use Rattle.moves_text.specs.declared.EventLine.{EventLine}
 use Rattle.moves_text.specs.declared.EventLine.the-variants.{Skipped, Malformed, Given}
 
 -- a field says a number
-abbrev pub Says : List ℕ → ℕ → Type 0
-Says f n = IsNumber f × (numberOn 0 f ≡ n)
+abbrev pub FieldSays : List ℕ → ℕ → Type 0
+FieldSays f n = IsNumeral f × (valueOn 0 f ≡ n)
 
 -- a line without its LF writes an event
-abbrev pub Writes : List ℕ → Event → Type 0
-Writes bytes (Load n t) = (f g : List ℕ) × (parts bytes ≡ quoted "L" ∷ f ∷ g ∷ []) × Says f n × Says g t
-Writes bytes (Advance n) = (f : List ℕ) × (parts bytes ≡ quoted "A" ∷ f ∷ []) × Says f n
-Writes bytes (Unload n) = (f : List ℕ) × (parts bytes ≡ quoted "U" ∷ f ∷ []) × Says f n
-Writes bytes (Pull n) = (f : List ℕ) × (parts bytes ≡ quoted "X" ∷ f ∷ []) × Says f n
+abbrev pub LineSays : List ℕ → Event → Type 0
+LineSays bytes (Load n t) = (f g : List ℕ) × (columns bytes ≡ quoted "L" ∷ f ∷ g ∷ []) × FieldSays f n × FieldSays g t
+LineSays bytes (Advance n) = (f : List ℕ) × (columns bytes ≡ quoted "A" ∷ f ∷ []) × FieldSays f n
+LineSays bytes (Unload n) = (f : List ℕ) × (columns bytes ≡ quoted "U" ∷ f ∷ []) × FieldSays f n
+LineSays bytes (Pull n) = (f : List ℕ) × (columns bytes ≡ quoted "X" ∷ f ∷ []) × FieldSays f n
 
 -- what a line means: an empty line or one that begins with `#` is skipped, where it has its LF; a line of another form, or
 -- without LF, is malformed
@@ -32,7 +32,7 @@ abbrev pub IsSkipped : Line → Type 0
 IsSkipped l = (l .ended ≡ true) × (isSkipped (l .bytes) ≡ true)
 
 abbrev pub IsEvent : Line → Event → Type 0
-IsEvent l e = (l .ended ≡ true) × Writes (l .bytes) e
+IsEvent l e = (l .ended ≡ true) × LineSays (l .bytes) e
 
 abbrev pub Means : Line → EventLine → Type 0
 Means l Skipped = IsSkipped l
@@ -52,7 +52,7 @@ eventWith letter fs =
 
 unfoldable pub eventIn : Line → EventLine
 eventIn l =
-    let ps = parts (l .bytes) in
+    let ps = columns (l .bytes) in
     cond (l .ended) (cond (isSkipped (l .bytes)) Skipped (eventWith (letterByte (letterIn ps)) (fieldsRead (fieldsIn ps)))) Malformed
 
 -- the counted lines: all but the skipped ones, `none` for a malformed one

@@ -10,7 +10,7 @@ use Rattle.plan_text.specs.Reading.{reading}
 use Rattle.plan_text.specs.declared.TextAnswer.{TextAnswer}
 use Rattle.plan_text.specs.declared.TextAnswer.the-variants.{Accepted, TooLong, BadLine, BadLetter, BadFields, OutOfRange, Repeated, Incomplete}
 use Rattle.moves_text.specs.Quoted.{quoted}
-use Rattle.moves_text.specs.Written.{decimal}
+use Rattle.moves_text.specs.Decimals.{decimal}
 use Rattle.moves_text.specs.Division.{planPart}
 
 -- what each number means

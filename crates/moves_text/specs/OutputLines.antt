@@ -12,7 +12,7 @@ use Rattle.events.specs.declared.Event.{Event}
 use Rattle.plan_text.specs.TextQuestions.{textNumber}
 use Rattle.plan_text.specs.declared.Reading.{Reading}
 use Rattle.moves_text.specs.Quoted.{quoted}
-use Rattle.moves_text.specs.Written.{decimal, lineWith}
+use Rattle.moves_text.specs.Decimals.{decimal, lineWith}
 
 -- `P`, the plan's answer, its line
 abbrev pub planLine : ℕ → ℕ → List ℕ

@@ -30,9 +30,9 @@ said [] = []
 said (r ∷ rs) = cond (eqb (r .number) 41) (said rs) ((r .number, r .place) ∷ said rs)
 
 -- how many lines say 0, and the jobs active in the last
-abbrev pub zeros : List Reply → ℕ
-zeros [] = 0
-zeros (r ∷ rs) = cond (eqb (r .number) 0) 1 0 + zeros rs
+abbrev pub admittedReplies : List Reply → ℕ
+admittedReplies [] = 0
+admittedReplies (r ∷ rs) = cond (eqb (r .number) 0) 1 0 + admittedReplies rs
 
 abbrev pub lastActive : List Reply → ℕ
 lastActive [] = 0
@@ -49,7 +49,7 @@ pub record PrintedRule (out : List ℕ) (p : Plan) (first last : List (Option Ev
   pub early-each : length early ≡ length first
   pub late-each : length late ≡ length last
   pub answered : said (early ++ late) ≡ map answerNumbers (answers p emptyList (eventsIn (first ++ last)))
-  pub rule : let between = run p start (eventsIn first) in EmptyingRule p between (run p between (eventsIn last)) (zeros late)
+  pub rule : let between = run p start (eventsIn first) in EmptyingRule p between (run p between (eventsIn last)) (admittedReplies late)
   pub active : lastActive (early ++ late) ≡ length (run p (run p start (eventsIn first)) (eventsIn last) .ledger .jobs)
 
 abbrev pub PrintedTheorem : Type 0

@@ -17,17 +17,17 @@ use Rattle.moves_text.specs.Division.{Divides}
 use Rattle.moves_text.specs.EventLines.{countedIn, eventsIn}
 use Rattle.moves_text.specs.OutputLines.{eventLine, aboutPlan, answerTo}
 
-abbrev pub joined : List (List ℕ) → List ℕ
-joined [] = []
-joined (l ∷ ls) = l ++ joined ls
+abbrev pub concatenated : List (List ℕ) → List ℕ
+concatenated [] = []
+concatenated (l ∷ ls) = l ++ concatenated ls
 
 -- the table after counted lines: that after the events of the well-formed ones, from the empty table
 abbrev pub tableAfter : Plan → List (Option Event) → JobList
 tableAfter p ls = listAfterAll p emptyList (eventsIn ls)
 
 -- the line printed of a counted line that comes after others: its event is answered at the table after theirs
-abbrev pub lineOf : Plan → List (Option Event) → Option Event → List ℕ
-lineOf p before l =
+abbrev pub lineFor : Plan → List (Option Event) → Option Event → List ℕ
+lineFor p before l =
     let a = answerTo p (tableAfter p before) l in
     eventLine (length before + 1) (a .0) (a .1) (tableAfter p (before ++ l ∷ []) .count)
 
@@ -37,9 +37,9 @@ pub record Answered (input out : List ℕ) : Type 0 where
   pub events : List ℕ
   pub divided : Divides input plan events
   pub lines : List (List ℕ)
-  pub printed : out ≡ aboutPlan (reading plan) ++ joined lines
+  pub printed : out ≡ aboutPlan (reading plan) ++ concatenated lines
   pub one-each : length lines ≡ length (countedIn events)
-  pub each : (s : Split (countedIn events)) → entry lines (length (s .before) + 1) [] ≡ lineOf (reading plan .plan) (s .before) (s .item)
+  pub each : (s : Split (countedIn events)) → entry lines (length (s .before) + 1) [] ≡ lineFor (reading plan .plan) (s .before) (s .item)
 
 -- what is printed of an input; of a longer one its refusal alone
 pub record Prints (input out : List ℕ) : Type 0 where

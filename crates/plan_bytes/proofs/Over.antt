@@ -16,7 +16,7 @@ use Rattle.model.proofs.Decide.{Decides, holding, failing, holds, decided, _and
 use Rattle.model.proofs.Flat.{stage-at, stages-flat}
 use Rattle.model.specs.declared.Plan.{Plan}
 use Rattle.model.specs.declared.Stage.{Stage}
-use Rattle.plan_bytes.specs.Over.{part, entriesIn, stageIn, stageSize, stagesSize, wholeStages, planRead, planOver, stageAt, emptyFrame}
+use Rattle.plan_bytes.specs.Over.{bytesFrom, entriesIn, stageIn, stageSize, stagesSize, wholeStages, planRead, planOver, stageAt, emptyFrame}
 use Rattle.plan_bytes.specs.declared.Frame.{Frame}
 use Rattle.plan_bytes.proofs.Nothing.{nothing-unsound}
 use Rattle.plan_bytes.proofs.Laid.{entries-length, stage-laid, stageLent, stage-lent, empty-beyond}
@@ -83,7 +83,7 @@ module _ (bytes : List ℕ) (i : ℕ) (whole : length bytes ≡ stagesSize) wher
   unfolding stageAt
   at-beyond h = rw (eq-eqb (length bytes) stagesSize whole, le-ltb i maxAllStages h) refl
 
-  pub at-within : i < maxAllStages → stageAt bytes i ≡ record { demand = part (i * 64) 32 bytes; weight = part (i * 64 + 32) 32 bytes }
+  pub at-within : i < maxAllStages → stageAt bytes i ≡ record { demand = bytesFrom (i * 64) 32 bytes; weight = bytesFrom (i * 64 + 32) 32 bytes }
   unfolding stageAt
   at-within h = rw (eq-eqb (length bytes) stagesSize whole, lt-ltb i maxAllStages h) refl
 

@@ -9,20 +9,20 @@ use lib.Seq.{getD-take, getD-drop}
 use Rattle.model.specs.Limits.{maxRows, maxAllStages}
 use Rattle.model.specs.Numbers.{InRange, at}
 use Rattle.model.specs.declared.Stage.{Stage}
-use Rattle.plan_bytes.specs.Over.{entriesIn, part, stageIn, stageSize}
+use Rattle.plan_bytes.specs.Over.{entriesIn, bytesFrom, stageIn, stageSize}
 use Rattle.plan_bytes.proofs.Laid.{entries-length, stage-laid}
 
 -- an entry of a part, counted from 0 and from 1, and beyond the last
-pub part-entry : (from n : ℕ) (bytes : List ℕ) (i : ℕ) → i < n → getD (part from n bytes) i 0 ≡ getD bytes (from + i) 0
+pub part-entry : (from n : ℕ) (bytes : List ℕ) (i : ℕ) → i < n → getD (bytesFrom from n bytes) i 0 ≡ getD bytes (from + i) 0
 part-entry from n bytes i h = getD-take n (drop from bytes) i 0 h ∙ getD-drop from bytes i 0
 
-pub part-at : (from n : ℕ) (bytes : List ℕ) (r : ℕ) → InRange r n → at (part from n bytes) r ≡ getD bytes (from + (r - 1)) 0
+pub part-at : (from n : ℕ) (bytes : List ℕ) (r : ℕ) → InRange r n → at (bytesFrom from n bytes) r ≡ getD bytes (from + (r - 1)) 0
 part-at from n bytes zero h = absurd (omega arith)
 part-at from n bytes (suc r) h = rw sub-one (part-entry from n bytes r (omega arith))
 
-pub part-beyond : (from n : ℕ) (bytes : List ℕ) (r : ℕ) → n < r → at (part from n bytes) r ≡ 0
+pub part-beyond : (from n : ℕ) (bytes : List ℕ) (r : ℕ) → n < r → at (bytesFrom from n bytes) r ≡ 0
 part-beyond from n bytes zero h = absurd (omega arith)
-part-beyond from n bytes (suc r) h = List·getD-eq-default (part from n bytes) 0 {n = r} (omega (arith, length-take n (drop from bytes)))
+part-beyond from n bytes (suc r) h = List·getD-eq-default (bytesFrom from n bytes) 0 {n = r} (omega (arith, length-take n (drop from bytes)))
 
 module _ (bytes : List ℕ) (i : ℕ) (d : Stage) where
   abbrev here : Stage

@@ -12,8 +12,8 @@ use Rattle.model.specs.declared.Plan.{Plan}
 use Rattle.plan_bytes.specs.declared.Frame.{Frame}
 
 -- n bytes from an offset on
-abbrev pub part : ℕ → ℕ → List ℕ → List ℕ
-part from n bytes = take n (drop from bytes)
+abbrev pub bytesFrom : ℕ → ℕ → List ℕ → List ℕ
+bytesFrom from n bytes = take n (drop from bytes)
 
 -- n entries of so many bytes each, one behind the other; a byte that is missing is read as none
 abbrev pub entriesIn : {A : Type 0} → (List ℕ → A) → ℕ → ℕ → List ℕ → List A
@@ -25,7 +25,7 @@ abbrev pub stageSize : ℕ
 stageSize = 64
 
 abbrev pub stageIn : List ℕ → Stage
-stageIn bytes = record { demand = take maxResources bytes; weight = part maxResources maxRows bytes }
+stageIn bytes = record { demand = take maxResources bytes; weight = bytesFrom maxResources maxRows bytes }
 
 abbrev pub stageBytes : Stage → List ℕ
 stageBytes s = s .demand ++ s .weight
@@ -60,7 +60,7 @@ planOver f bytes = planRead f (wholeStages bytes)
 unfoldable pub stageAt : List ℕ → ℕ → Stage
 stageAt bytes i =
     cond (eqb (length bytes) stagesSize && ltb i maxAllStages)
-    (record { demand = part (i * stageSize) maxResources bytes; weight = part (i * stageSize + maxResources) maxRows bytes })
+    (record { demand = bytesFrom (i * stageSize) maxResources bytes; weight = bytesFrom (i * stageSize + maxResources) maxRows bytes })
     noStage
 
 -- the frame of the empty plan, whose stages are bytes of 0

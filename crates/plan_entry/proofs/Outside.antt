@@ -8,7 +8,7 @@ use lib.ListN.{length, List·getD-eq-default}
 use lib.Seq.{set-out}
 use Rattle.model.specs.Numbers.{InRange, entry}
 use Rattle.model.proofs.Decide.{decided, decides-le}
-use Rattle.plan_text.specs.Written.{put}
+use Rattle.plan_text.specs.Draft.{put}
 
 pub outside : {A : Type 0} (xs : List A) (i : ℕ) (d : A) → (¬ InRange i (length xs)) → entry xs i d ≡ d
 outside xs zero d h = refl

@@ -2,7 +2,7 @@
 ghost use mathlib.Core.Path.{_≡_};
 ghost use Prim.Native.Nat.{_-_};
 ghost use Rattle.model.specs.Numbers.{at};
-ghost use Rattle.plan_text.specs.Written.{put};
+ghost use Rattle.plan_text.specs.Draft.{put};
 
 // Where it stands, counted from 0.
 fn position(number: u32) -> usize
@@ -21,11 +21,11 @@ pub fn entry_of(xs: &[u8], number: u32) -> u32
     if number < 1 {
         return 0;
     }
-    let place = position(number);
-    if xs.len() <= place {
+    let index = position(number);
+    if xs.len() <= index {
         return 0;
     }
-    xs[place] as u32
+    xs[index] as u32
 }
 
 // The bound of a row; 0 where there is none.
@@ -35,11 +35,11 @@ pub fn bound_of(bounds: &[u16], row: u32) -> u32
     if row < 1 {
         return 0;
     }
-    let place = position(row);
-    if bounds.len() <= place {
+    let index = position(row);
+    if bounds.len() <= index {
         return 0;
     }
-    bounds[place] as u32
+    bounds[index] as u32
 }
 
 // The list with x for the entry, and as it was where that is beyond its last; 0 counts as 1.

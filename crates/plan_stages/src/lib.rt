@@ -4,8 +4,8 @@ ghost use mathlib.Core.Path.{_≡_};
 ghost use Prim.Native.Nat.{_+_, _-_, _*_, _≤_};
 ghost use lib.ListN.{length};
 ghost use Rattle.model.specs.Numbers.{at, sumTo};
-ghost use Rattle.plan_bytes.specs.Over.{part, stageAt};
-ghost use Rattle.internals.specs.Parts.{stageIndex};
+ghost use Rattle.plan_bytes.specs.Over.{bytesFrom, stageAt};
+ghost use Rattle.internals.specs.Internals.{stageIndex};
 use bytes::copy;
 
 // The index of no stage: it is beyond the last.
@@ -72,10 +72,10 @@ pub fn stage_index(lengths: &[u8; 16], kind: u32, stage: u32) -> usize
     before + (stage - 1) as usize
 }
 
-// 32 bytes from a place on. A copy: the loops over it are vectorised, those over lent bytes are not.
+// 32 bytes from an offset on. A copy: the loops over it are vectorised, those over lent bytes are not.
 fn entries_at(stages: &[u8], at: usize) -> [u8; 32]
     requires { ⌜ at + 32 ≤ length (now stages) ⌝ }
-    ensures { λ r. ⌜ r ≡ part at 32 (now (stages .entry)) ⌝ }
+    ensures { λ r. ⌜ r ≡ bytesFrom at 32 (now (stages .entry)) ⌝ }
 {
     let mut entries = [0u8; 32];
     let end = at + 32;

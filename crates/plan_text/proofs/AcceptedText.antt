@@ -17,7 +17,7 @@ use Rattle.model.proofs.Decide.{Decides, holding, failing, decides-le}
 use Rattle.model.proofs.Decide as decide
 use Rattle.plan_text.specs.Lines.{Line, linesOf, isSkipped}
 use Rattle.plan_text.specs.Records.{recordIn}
-use Rattle.plan_text.specs.Written.{Draft, emptyDraft, draftOf, planOf, written}
+use Rattle.plan_text.specs.Draft.{Draft, emptyDraft, draftOf, planOf, draftAfter}
 use Rattle.plan_text.specs.TextQuestions.{maxText, textNumber, recordsOf, Complete}
 use Rattle.plan_text.specs.Reading.{refused, accepted, readFrom, reading, ofLine, formQuestions, recordQuestions, isComplete}
 use Rattle.plan_text.specs.declared.Record.{Record}
@@ -58,8 +58,8 @@ refused-from n from d [] = go (isComplete d)
 refused-from n from d (l ∷ ls) =
     let to = from + length (l .bytes) in
     let r = recordIn (l .bytes) in
-    refused-in (n + 1) from to (readFrom (n + 1) (to + 1) (written d r) ls) (formQuestions (d .section) l ++ recordQuestions d r)
-    (refused-from (n + 1) (to + 1) (written d r) ls)
+    refused-in (n + 1) from to (readFrom (n + 1) (to + 1) (draftAfter d r) ls) (formQuestions (d .section) l ++ recordQuestions d r)
+    (refused-from (n + 1) (to + 1) (draftAfter d r) ls)
 
 -- demand 1: a refused text yields the empty plan
 pub refused-empty : (text : List ℕ) → textNumber (reading text .answer) ≢ 0 → reading text .plan ≡ emptyPlan
@@ -87,7 +87,7 @@ module _ (text : List ℕ) where
       → Whole (rs ++ recordsOf (l ∷ ls)) (readFrom n from (draftOf rs) (l ∷ ls))
   whole-line l ls rs n from kept lines ok later =
       let shown = shown-line text from l ls lines in
-      let next = readFrom (n + 1) (from + length (l .bytes) + 1) (written (draftOf rs) (recordIn (l .bytes))) ls in
+      let next = readFrom (n + 1) (from + length (l .bytes) + 1) (draftAfter (draftOf rs) (recordIn (l .bytes))) ls in
       let answers = line-answers text rs kept (n + 1) from l shown in
       let hold = decide.all-hold isOk next answers ok in
       let on = goes-on text rs kept (n + 1) from l hold (isSkipped (l .bytes)) refl in

@@ -13,14 +13,14 @@ use Rattle.model.specs.declared.Plan.{Plan}
 use Rattle.model.proofs.Decide.{Decides, decided, holds, decides-iff, decides-eq, decides-le, decides-all, _and_}
 use Rattle.model.proofs.Soundness.{decides-sound, decides-empty-stage}
 use Rattle.plan_text.specs.Records.{knownOf, Has}
-use Rattle.plan_text.specs.ReaderParts.{InKnown}
-use Rattle.plan_text.specs.Written.{Draft, emptyDraft, draftOf}
+use Rattle.plan_text.specs.ReaderInternals.{InKnown}
+use Rattle.plan_text.specs.Draft.{Draft, emptyDraft, draftOf}
 use Rattle.plan_text.specs.TextQuestions.{IsResource, Complete}
 use Rattle.plan_text.specs.Reading.{isComplete}
 use Rattle.plan_text.specs.Meaning.{line, C, R, T, S, K}
 use Rattle.plan_text.specs.declared.Record.{Record}
 use Rattle.plan_text.proofs.RecordLists.{has-each}
-use Rattle.plan_text.proofs.Kept.{Entry, Place, Half, demandHalf, weightHalf, InPlace, Ranged, Kept}
+use Rattle.plan_text.proofs.Kept.{Entry, Slot, Half, demandHalf, weightHalf, InSlot, Ranged, Kept}
 use Rattle.plan_text.proofs.KeptAfter.{counts-fit}
 use Rattle.plan_text.proofs.RecordQuestions.{resource-told, type-told, row-told, stage-told, no-more-types}
 
@@ -43,7 +43,7 @@ module _ (rs : List Record) (d : Draft) (kept : Kept rs d) where
   zero-of : (n : ℕ) (xs : List ℕ) → ((i v : ℕ) → Entry xs i v ↔ Has rs (line n i v 0 0)) → (i : ℕ) → ((v : ℕ) → ¬ Has rs (line n i v 0 0)) → at xs i ≡ 0
   zero-of n xs held i none = none-zero (at xs i) (λ v h e. none v (held i v .0 (h, e)))
 
-  stage-zero : (h : Half) → ((k : Place) (v : ℕ) → InPlace h p k v ↔ Has rs (h .of k v)) → (t k i : ℕ) → ((v : ℕ) → ¬ Has rs (h .of (t, k, i) v))
+  stage-zero : (h : Half) → ((k : Slot) (v : ℕ) → InSlot h p k v ↔ Has rs (h .of k v)) → (t k i : ℕ) → ((v : ℕ) → ¬ Has rs (h .of (t, k, i) v))
       → at (h .part (stageOf p t k)) i ≡ 0
   stage-zero h held t k i none = none-zero _ (λ v a e. none v (held (t, k, i) v .0 (a, e)))
 

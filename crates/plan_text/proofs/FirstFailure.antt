@@ -15,11 +15,11 @@ use Rattle.model.specs.Questions.{Condition, AllHold, FirstFailure}
 use Rattle.model.specs.Plan.{noStage}
 use Rattle.model.proofs.Decide.{Decides, holding, decided, passes, decides-iff, decides-le, decides-lt}
 use Rattle.model.proofs.Decide.{Answers, done, asked, choose, failure-append, Holds, conditions-split, first-failure-then}
-use Rattle.plan_text.specs.Lines.{Line, lineEnd, linesOf, isSkipped, parts, letterIn, fieldsIn}
+use Rattle.plan_text.specs.Lines.{Line, lineEnd, linesOf, isSkipped, columns, letterIn, fieldsIn}
 use Rattle.plan_text.specs.Records.{knownOf, recordIn, noRecord, inRanges, sectionOf, fieldsRead, layoutOf}
-use Rattle.plan_text.specs.Written.{Draft, emptyDraft, indexIn, written, writtenAll, draftOf, planOf, heldIn}
-use Rattle.plan_text.specs.Meaning.{SaysSoFar}
-use Rattle.plan_text.specs.TextQuestions.{textNumber, Refuses, IsRecord, recordsOf, startAfter, Follows, WellFielded, InRanges, FirstWithKey, WithinTotal, lastSection}
+use Rattle.plan_text.specs.Draft.{Draft, emptyDraft, indexNamed, draftAfter, draftAfterAll, draftOf, planOf, heldIn}
+use Rattle.plan_text.specs.Meaning.{RecordsSaySoFar}
+use Rattle.plan_text.specs.TextQuestions.{textNumber, RefusesText, IsRecord, recordsOf, startAfter, Follows, WellFielded, InRanges, FirstWithKey, WithinTotal, lastSection}
 use Rattle.plan_text.specs.TextQuestions.{maxText, lineConditions, linesConditions, LinesTaken, lastConditions, textConditions, Accepts}
 use Rattle.plan_text.specs.Reading.{refused, accepted, follows, withinTotal, lineQuestions, readFrom, reading}
 use Rattle.plan_text.specs.declared.Record.{Record}
@@ -35,15 +35,15 @@ use Rattle.plan_text.proofs.Completeness.{decides-complete, complete-so
 use Rattle.plan_text.proofs.RecordsSay.{says-so-far, records-say, records-sized}
 
 -- the draft after one record more
-pub draft-more : (d : Draft) (rs qs : List Record) → writtenAll d (rs ++ qs) ≡ writtenAll (writtenAll d rs) qs
+pub draft-more : (d : Draft) (rs qs : List Record) → draftAfterAll d (rs ++ qs) ≡ draftAfterAll (draftAfterAll d rs) qs
 draft-more d [] qs = refl
-draft-more d (r ∷ rs) qs = draft-more (written d r) rs qs
+draft-more d (r ∷ rs) qs = draft-more (draftAfter d r) rs qs
 
 -- a skipped line writes nothing
-pub nothing-written : (d : Draft) → written d noRecord ≡ d
-unfolding written
+pub nothing-written : (d : Draft) → draftAfter d noRecord ≡ d
+unfolding draftAfter
 nothing-written d =
-    let same = set-getD (d .plan .stages) (indexIn (d .plan .lengths) noRecord) noStage in
+    let same = set-getD (d .plan .stages) (indexNamed (d .plan .lengths) noRecord) noStage in
     λ i. record {
       plan = record {
         resources = d .plan .resources;
@@ -75,29 +75,29 @@ module _ (text : List ℕ) (rs : List Record) (kept : Kept rs (draftOf rs)) (n f
   abbrev r : Record
   r = recordIn (l .bytes)
 
-  one-more : draftOf (rs ++ r ∷ []) ≡ written d r
+  one-more : draftOf (rs ++ r ∷ []) ≡ draftAfter d r
   one-more = draft-more emptyDraft rs (r ∷ [])
 
-  section-of : IsRecord l → r .section ≡ sectionOf (letterIn (parts (l .bytes)))
+  section-of : IsRecord l → r .section ≡ sectionOf (letterIn (columns (l .bytes)))
   section-of e = ap (λ (q : Record). q .section) (record-in (l .bytes) e)
 
-  met-three : Decides (IsRecord l → Follows (lastSection rs) (sectionOf (letterIn (parts (l .bytes)))))
+  met-three : Decides (IsRecord l → Follows (lastSection rs) (sectionOf (letterIn (columns (l .bytes)))))
       (isSkipped (l .bytes) || follows (d .section) (r .section))
   met-three =
       decides-record (isSkipped (l .bytes))
-      (λ e. rw (section-of e, ← (kept .last)) (decides-follows (d .section) (sectionOf (letterIn (parts (l .bytes))))))
+      (λ e. rw (section-of e, ← (kept .last)) (decides-follows (d .section) (sectionOf (letterIn (columns (l .bytes))))))
 
   met-four : Decides (IsRecord l → WellFielded l)
-      (isSkipped (l .bytes) || eqb (fieldsRead (fieldsIn (parts (l .bytes))) .count) (length (layoutOf (r .section))))
+      (isSkipped (l .bytes) || eqb (fieldsRead (fieldsIn (columns (l .bytes))) .count) (length (layoutOf (r .section))))
   met-four =
       decides-record (isSkipped (l .bytes))
-      (λ e. rw (section-of e) (decides-fielded (fieldsIn (parts (l .bytes))) (sectionOf (letterIn (parts (l .bytes))))))
+      (λ e. rw (section-of e) (decides-fielded (fieldsIn (columns (l .bytes))) (sectionOf (letterIn (columns (l .bytes))))))
 
   met-five : Decides (IsRecord l → InRanges rs r) (inRanges (knownOf (d .plan)) r)
   unfolding inRanges
   met-five = decides-unless (isSkipped (l .bytes)) (λ e. rw (skipped-in (l .bytes) e) refl) (λ e. decides-in-ranges rs d kept r)
 
-  module _ (three : IsRecord l → Follows (lastSection rs) (sectionOf (letterIn (parts (l .bytes))))) (five : IsRecord l → InRanges rs r) where
+  module _ (three : IsRecord l → Follows (lastSection rs) (sectionOf (letterIn (columns (l .bytes))))) (five : IsRecord l → InRanges rs r) where
     follows-last : IsRecord l → Follows (d .section) (r .section)
     follows-last e = rw (section-of e, kept .last) (three e)
 
@@ -116,7 +116,7 @@ module _ (text : List ℕ) (rs : List Record) (kept : Kept rs (draftOf rs)) (n f
 
   -- the line stands in the text
   module _ (shown : take (from + length (l .bytes) - from) (drop from text) ≡ l .bytes) where
-    refusal : (number : ℕ) (a : TextAnswer) → textNumber a ≡ number → Refuses text number n from (l .bytes) (refused a n from (from + length (l .bytes)))
+    refusal : (number : ℕ) (a : TextAnswer) → textNumber a ≡ number → RefusesText text number n from (l .bytes) (refused a n from (from + length (l .bytes)))
     refusal number a e = record { says = record { number = e; line = refl; from = refl; to = refl; shown = shown }; plan = refl }
 
     pub line-answers : Answers isOk (lineQuestions n from d l) (lineConditions text rs n from l)
@@ -140,13 +140,13 @@ module _ (text : List ℕ) (rs : List Record) (kept : Kept rs (draftOf rs)) (n f
         record {
           follows = three e;
           ranges = ranges-told rs d kept r .1 (all .1 .1 .1 .0 e);
-          blank = rw (record-in (l .bytes) e) (fielded-blank (fieldsIn (parts (l .bytes))) (sectionOf (letterIn (parts (l .bytes)))) (all .1 .1 .0 e));
+          blank = rw (record-in (l .bytes) e) (fielded-blank (fieldsIn (columns (l .bytes))) (sectionOf (letterIn (columns (l .bytes)))) (all .1 .1 .0 e));
           first = nothing-held (all .1 .0) (all .1 .1 .1 .0) e (all .1 .1 .1 .1 .0 e);
           total = all .1 .1 .1 .1 .1 .0 e;
         }
 
     pub goes-on : (b : Bool) → isSkipped (l .bytes) ≡ b
-        → (Kept (rs ++ recordsOf (l ∷ [])) (draftOf (rs ++ recordsOf (l ∷ [])))) × (draftOf (rs ++ recordsOf (l ∷ [])) ≡ written d r)
+        → (Kept (rs ++ recordsOf (l ∷ [])) (draftOf (rs ++ recordsOf (l ∷ [])))) × (draftOf (rs ++ recordsOf (l ∷ [])) ≡ draftAfter d r)
     goes-on true e = rw (e, append-nil rs, skipped-in (l .bytes) e) (kept, sym (nothing-written d))
     goes-on false e = rw e (subst (Kept (rs ++ r ∷ [])) (sym one-more) (kept-after rs d kept r (taken e)), one-more)
 
@@ -196,13 +196,13 @@ module _ (text : List ℕ) where
   module _ (before : List Line) (l : Line) (kept : KeptLines before)
       (hold : AllHold (lineConditions text (recordsOf before) (length before + 1) (startAfter before) l)) where
     abbrev on : Kept (recordsOf before ++ recordsOf (l ∷ [])) (draftOf (recordsOf before ++ recordsOf (l ∷ [])))
-        × (draftOf (recordsOf before ++ recordsOf (l ∷ [])) ≡ written (draftOf (recordsOf before)) (recordIn (l .bytes)))
+        × (draftOf (recordsOf before ++ recordsOf (l ∷ [])) ≡ draftAfter (draftOf (recordsOf before)) (recordIn (l .bytes)))
     on = goes-on text (recordsOf before) kept (length before + 1) (startAfter before) l hold (isSkipped (l .bytes)) refl
 
     kept-more : KeptLines (before ++ l ∷ [])
     kept-more = subst (λ rs. Kept rs (draftOf rs)) (sym (records-append before (l ∷ []))) (on .0)
 
-    draft-after : draftOf (recordsOf (before ++ l ∷ [])) ≡ written (draftOf (recordsOf before)) (recordIn (l .bytes))
+    draft-after : draftOf (recordsOf (before ++ l ∷ [])) ≡ draftAfter (draftOf (recordsOf before)) (recordIn (l .bytes))
     draft-after = ap draftOf (records-append before (l ∷ [])) ∙ on .1
 
   kept-lines : (ls before : List Line) → KeptLines before → AllHold (linesConditions text before ls) → KeptLines (before ++ ls)
@@ -212,7 +212,7 @@ module _ (text : List ℕ) where
       subst KeptLines (append-assoc before (l ∷ []) ls) (kept-lines ls (before ++ l ∷ []) (kept-more before l kept (both .0)) (both .1))
 
   -- what the records of lines that are taken say of the plan so far, which questions 5 and 7 are asked of when they are computed
-  pub so-far-said : (ls : List Line) → LinesTaken text ls → SaysSoFar (recordsOf ls) (planOf (recordsOf ls))
+  pub so-far-said : (ls : List Line) → LinesTaken text ls → RecordsSaySoFar (recordsOf ls) (planOf (recordsOf ls))
   so-far-said ls taken = says-so-far (recordsOf ls) (kept-lines ls [] nothing-kept taken)
 
   abbrev lines : List Line
@@ -230,7 +230,7 @@ module _ (text : List ℕ) where
 
   right-end : KeptLines lines → Right lines []
   right-end kept =
-      choose (Accepts text) (Refuses text 7 (length lines + 1) 0 []) (accepted (planOf (recordsOf lines))) (refused Incomplete (length lines + 1) 0 0)
+      choose (Accepts text) (RefusesText text 7 (length lines + 1) 0 []) (accepted (planOf (recordsOf lines))) (refused Incomplete (length lines + 1) 0 0)
       (decides-complete (recordsOf lines) kept)
       (λ h. record { says = record { number = refl; line = refl; from = refl; to = refl; shown = refl }; plan = refl })
       (λ c. record {
@@ -265,7 +265,7 @@ module _ (text : List ℕ) where
   pub reading-first-failure : FirstFailure (Accepts text) (textConditions text) (reading text)
   unfolding reading
   reading-first-failure =
-      choose (FirstFailure (Accepts text) (linesConditions text [] lines ++ seven)) (Refuses text 1 0 0 [])
+      choose (FirstFailure (Accepts text) (linesConditions text [] lines ++ seven)) (RefusesText text 1 0 0 [])
       (readFrom 0 0 emptyDraft lines) (refused TooLong 0 0 0) (decides-le (length text) maxText)
       (λ h. record { says = record { number = refl; line = refl; from = refl; to = refl; shown = refl }; plan = refl })
       (λ h. failure-append (Accepts text) (linesConditions text [] lines) seven _ (right-from lines [] nothing-kept refl refl))

@@ -18,12 +18,12 @@ use Rattle.model.specs.declared.Plan.{Plan}
 use Rattle.model.proofs.Decide.{decided, decides-eq, decides-le}
 use Rattle.model.proofs.Flat.{index-of-stage}
 use Rattle.model.proofs.Lists.{replicated}
-use Rattle.plan_text.specs.Records.{sections, number, Known, knownOf}
+use Rattle.plan_text.specs.Records.{sections, Known, knownOf}
 use Rattle.plan_text.specs.Records.{Has}
-use Rattle.plan_text.specs.ReaderParts.{InKnown}
-use Rattle.plan_text.specs.Written.{Draft, emptyDraft, put, withDemand, withWeight, typeIn, stageIn, indexIn}
-use Rattle.plan_text.specs.Written.{entriesAfter, boundedAfter, stageAfter, stageHere}
-use Rattle.plan_text.specs.Written.{written, heldIn}
+use Rattle.plan_text.specs.ReaderInternals.{InKnown}
+use Rattle.plan_text.specs.Draft.{Draft, emptyDraft, put, withDemand, withWeight, typeNamed, stageNamed, indexNamed}
+use Rattle.plan_text.specs.Draft.{entriesAfter, boundedAfter, stageAfterRecord, stageHere}
+use Rattle.plan_text.specs.Draft.{draftAfter, heldIn}
 use Rattle.plan_text.specs.TextQuestions.{Follows, lastSection, stagesIn, WithinTotal}
 use Rattle.plan_text.specs.Meaning.{line}
 use Rattle.plan_text.specs.declared.Record.{Record}
@@ -50,14 +50,14 @@ abbrev pub Bounded : List ℕ → List ℕ → ℕ → ℕ → Type 0
 Bounded bounded bound w v = (at bounded w ≡ 1) × (at bound w ≡ v)
 
 -- a stage, and a number of it
-abbrev pub Place : Type 0
-Place = ℕ × ℕ × ℕ
+abbrev pub Slot : Type 0
+Slot = ℕ × ℕ × ℕ
 
--- S and A: what they write of a stage, the record of a place and a value, and the place's number in the record
+-- S and A: what they write of a stage, the record of a slot and a value, and the slot's number in the record
 pub record Half : Type 0 where
   pub section : ℕ
   pub part : Stage → List ℕ
-  pub of : Place → ℕ → Record
+  pub of : Slot → ℕ → Record
   pub number : Record → ℕ
   pub size : ℕ
 
@@ -81,8 +81,8 @@ weightHalf =
       size = maxRows;
     }
 
-abbrev pub InPlace : Half → Plan → Place → ℕ → Type 0
-InPlace h p k v = Entry (h .part (stageOf p (k .0) (k .1))) (k .2) v
+abbrev pub InSlot : Half → Plan → Slot → ℕ → Type 0
+InSlot h p k v = Entry (h .part (stageOf p (k .0) (k .1))) (k .2) v
 
 -- a record of the text, in range
 pub record Ranged (k : Known) (q : Record) : Type 0 where
@@ -104,9 +104,9 @@ pub record Kept (rs : List Record) (d : Draft) : Type 0 where
   pub flags : (w : ℕ) → (at (d .bounded) w ≡ 1) ⊎ ((at (d .bounded) w ≡ 0) × (boundOf (d .plan) w ≡ 0))
   pub capacities : (i v : ℕ) → Entry (d .plan .capacity) i v ↔ Has rs (line 2 i v 0 0)
   pub lengths : (t v : ℕ) → Entry (d .plan .lengths) t v ↔ Has rs (line 3 t v 0 0)
-  pub demands : (k : Place) (v : ℕ) → InPlace demandHalf (d .plan) k v ↔ Has rs (demandHalf .of k v)
+  pub demands : (k : Slot) (v : ℕ) → InSlot demandHalf (d .plan) k v ↔ Has rs (demandHalf .of k v)
   pub bounds : (w v : ℕ) → Bounded (d .bounded) (d .plan .bound) w v ↔ Has rs (line 5 w v 0 0)
-  pub weights : (k : Place) (v : ℕ) → InPlace weightHalf (d .plan) k v ↔ Has rs (weightHalf .of k v)
+  pub weights : (k : Slot) (v : ℕ) → InSlot weightHalf (d .plan) k v ↔ Has rs (weightHalf .of k v)
   pub ranks : (i v : ℕ) → Entry (d .plan .rank) i v ↔ Has rs (line 7 i v 0 0)
 
 -- what questions 3 to 6 say of the next record
@@ -137,7 +137,7 @@ module _ (d : Draft) (r : Record) (sizes : Sizes d) where
   sized n size xs h = entries-length n xs r ∙ h
 
   stage-sized : (s : Stage) → (length (s .demand) ≡ maxResources) × (length (s .weight) ≡ maxRows)
-      → (length (stageAfter s r .demand) ≡ maxResources) × (length (stageAfter s r .weight) ≡ maxRows)
+      → (length (stageAfterRecord s r .demand) ≡ maxResources) × (length (stageAfterRecord s r .weight) ≡ maxRows)
   stage-sized s h = go (eqb (r .section) 4) (eqb (r .section) 6)
     where
       go : (a b : Bool) → let t = cond a (withDemand s (r .third) (r .fourth)) (cond b (withWeight s (r .first) (r .fourth)) s) in
@@ -146,15 +146,15 @@ module _ (d : Draft) (r : Record) (sizes : Sizes d) where
       go false true = (h .0, put-length (s .weight) (r .first) (r .fourth) ∙ h .1)
       go false false = h
 
-  stages-sized : (i : ℕ) → let s = getD (written d r .plan .stages) i noStage in (length (s .demand) ≡ maxResources) × (length (s .weight) ≡ maxRows)
-  unfolding written
+  stages-sized : (i : ℕ) → let s = getD (draftAfter d r .plan .stages) i noStage in (length (s .demand) ≡ maxResources) × (length (s .weight) ≡ maxRows)
+  unfolding draftAfter
   stages-sized =
       set-keeps (λ (s : Stage). (length (s .demand) ≡ maxResources) × (length (s .weight) ≡ maxRows)) (d .plan .stages)
-      (indexIn (d .plan .lengths) r) (stageAfter (stageHere (d .plan) r) r) noStage
+      (indexNamed (d .plan .lengths) r) (stageAfterRecord (stageHere (d .plan) r) r) noStage
       (stage-sized (stageHere (d .plan) r) (sizes .demand _, sizes .weight _)) (λ j. (sizes .demand j, sizes .weight j))
 
-  pub sizes-after : Sizes (written d r)
-  unfolding written
+  pub sizes-after : Sizes (draftAfter d r)
+  unfolding draftAfter
   sizes-after =
       record {
         capacity = sized 2 maxResources (d .plan .capacity) (sizes .capacity);
@@ -234,8 +234,8 @@ module _ (bounded bound : List ℕ) (rs : List Record) (r : Record) (held : (w v
       (λ (ne : ¬ (r .section ≡ 5)). rw (ne-eqb (r .section) 5 ne) (flags w))
       (decided (decides-eq (r .section) 5))
 
-same-place : (t k u j : ℕ) → ((t ≡ u) × (k ≡ j)) ⊎ (¬ ((t ≡ u) × (k ≡ j)))
-same-place t k u j =
+same-stage : (t k u j : ℕ) → ((t ≡ u) × (k ≡ j)) ⊎ (¬ ((t ≡ u) × (k ≡ j)))
+same-stage t k u j =
     ⊎-elim
     (λ (a : t ≡ u). ⊎-elim (λ (b : k ≡ j). inl (a, b)) (λ (b : ¬ (k ≡ j)). inr (λ h. b (h .1))) (decided (decides-eq k j)))
     (λ (a : ¬ (t ≡ u)). inr (λ h. a (h .0)))
@@ -244,11 +244,11 @@ same-place t k u j =
 -- what the two halves have in common
 pub record HalfLaws (h : Half) : Type 0 where
   pub names : (r : Record) → r .section ≡ h .section → (r .section ≡ 4) ⊎ (r .section ≡ 6)
-  pub shape : (r : Record) → r .section ≡ h .section → r ≡ h .of (typeIn r, stageIn r, h .number r) (r .fourth)
-  pub writes : (s : Stage) (r : Record) → r .section ≡ h .section → h .part (stageAfter s r) ≡ put (h .part s) (h .number r) (r .fourth)
-  pub keeps : (s : Stage) (r : Record) → r .section ≢ h .section → h .part (stageAfter s r) ≡ h .part s
-  pub section-of : (k : Place) (v : ℕ) → h .of k v .section ≡ h .section
-  pub apart : (k : Place) (v : ℕ) (j : Place) (w : ℕ) → h .of k v ≡ h .of j w → (k ≡ j) × (v ≡ w)
+  pub shape : (r : Record) → r .section ≡ h .section → r ≡ h .of (typeNamed r, stageNamed r, h .number r) (r .fourth)
+  pub writes : (s : Stage) (r : Record) → r .section ≡ h .section → h .part (stageAfterRecord s r) ≡ put (h .part s) (h .number r) (r .fourth)
+  pub keeps : (s : Stage) (r : Record) → r .section ≢ h .section → h .part (stageAfterRecord s r) ≡ h .part s
+  pub section-of : (k : Slot) (v : ℕ) → h .of k v .section ≡ h .section
+  pub apart : (k : Slot) (v : ℕ) (j : Slot) (w : ℕ) → h .of k v ≡ h .of j w → (k ≡ j) × (v ≡ w)
   pub sized : (d : Draft) → Sizes d → (i : ℕ) → length (h .part (getD (d .plan .stages) i noStage)) ≡ h .size
 
 demand-keeps : (s : Stage) (r : Record) (a b : Bool) → a ≡ false
@@ -295,99 +295,99 @@ either i false false (inr h) = absurd (false≢true h)
 
 -- where S and A write
 written-at : (d : Draft) (r : Record) → (r .section ≡ 4) ⊎ (r .section ≡ 6)
-    → indexIn (d .plan .lengths) r ≡ sumTo (typeIn r - 1) (lengthOf (d .plan)) + (stageIn r - 1)
-unfolding indexIn
+    → indexNamed (d .plan .lengths) r ≡ sumTo (typeNamed r - 1) (lengthOf (d .plan)) + (stageNamed r - 1)
+unfolding indexNamed
 written-at d r (inl e) = either _ (eqb (r .section) 4) (eqb (r .section) 6) (inl (eq-eqb (r .section) 4 e))
 written-at d r (inr e) = either _ (eqb (r .section) 4) (eqb (r .section) 6) (inr (eq-eqb (r .section) 6 e))
 
 -- the stage that stands there is the one that they name
 pub found-at : (rs : List Record) (d : Draft) → Kept rs d → (r : Record) → (r .section ≡ 4) ⊎ (r .section ≡ 6)
-    → IsStage (d .plan) (typeIn r) (stageIn r) → stageHere (d .plan) r ≡ stageOf (d .plan) (typeIn r) (stageIn r)
+    → IsStage (d .plan) (typeNamed r) (stageNamed r) → stageHere (d .plan) r ≡ stageOf (d .plan) (typeNamed r) (stageNamed r)
 found-at rs d kept r e there =
     ap (λ i. getD (d .plan .stages) i noStage) (written-at d r e)
-    ∙ sym (stages.stage-here (d .plan) (typeIn r) (stageIn r) there (kept .total) (kept .sizes .stages) noStage)
+    ∙ sym (stages.stage-here (d .plan) (typeNamed r) (stageNamed r) there (kept .total) (kept .sizes .stages) noStage)
 
 module _ (rs : List Record) (d : Draft) (kept : Kept rs d) (r : Record) (taken : Taken rs d r) where
   -- the stage that S or A names is one of the plan
-  pub named : (r .section ≡ 4) ⊎ (r .section ≡ 6) → IsStage (d .plan) (typeIn r) (stageIn r)
+  pub named : (r .section ≡ 4) ⊎ (r .section ≡ 6) → IsStage (d .plan) (typeNamed r) (stageNamed r)
   named (inl e) =
       let q = of-section 4 r e in
       let in-range = subst (InKnown (knownOf (d .plan))) q (taken .ranges) in
-      subst (λ x. IsStage (d .plan) (typeIn x) (stageIn x)) (sym q) (in-range .0, in-range .1 .0)
+      subst (λ x. IsStage (d .plan) (typeNamed x) (stageNamed x)) (sym q) (in-range .0, in-range .1 .0)
   named (inr e) =
       let q = of-section 6 r e in
       let in-range = subst (InKnown (knownOf (d .plan))) q (taken .ranges) in
-      subst (λ x. IsStage (d .plan) (typeIn x) (stageIn x)) (sym q) (in-range .1 .0, in-range .1 .1 .0)
+      subst (λ x. IsStage (d .plan) (typeNamed x) (stageNamed x)) (sym q) (in-range .1 .0, in-range .1 .1 .0)
 
-  pub total-same : r .section ≢ 1 → r .section ≢ 3 → allStages (written d r .plan) ≡ allStages (d .plan)
-  unfolding written allStages
+  pub total-same : r .section ≢ 1 → r .section ≢ 3 → allStages (draftAfter d r .plan) ≡ allStages (d .plan)
+  unfolding draftAfter allStages
   total-same a b = rw (ne-eqb (r .section) 1 a, ne-eqb (r .section) 3 b) refl
 
   -- S and A write at the stage that they name, and all else stays
-  others-stay : (r .section ≡ 4) ⊎ (r .section ≡ 6) → written d r .plan ≡ stages.withStages (d .plan) (written d r .plan .stages)
-  unfolding written
+  others-stay : (r .section ≡ 4) ⊎ (r .section ≡ 6) → draftAfter d r .plan ≡ stages.withStages (d .plan) (draftAfter d r .plan .stages)
+  unfolding draftAfter
   others-stay (inl e) = rw e refl
   others-stay (inr e) = rw e refl
 
   rewritten : (e : (r .section ≡ 4) ⊎ (r .section ≡ 6))
-      → written d r .plan
-      ≡ stages.changedPlan (d .plan) (typeIn r) (stageIn r) (named e) (kept .total) (kept .sizes .stages) (stageAfter (stageHere (d .plan) r) r)
-  unfolding written
+      → draftAfter d r .plan
+      ≡ stages.changedPlan (d .plan) (typeNamed r) (stageNamed r) (named e) (kept .total) (kept .sizes .stages) (stageAfterRecord (stageHere (d .plan) r) r)
+  unfolding draftAfter
   rewritten e =
       others-stay e
-      ∙ ap (λ i. stages.withStages (d .plan) (set (d .plan .stages) i (stageAfter (stageHere (d .plan) r) r))) (written-at d r e)
+      ∙ ap (λ i. stages.withStages (d .plan) (set (d .plan .stages) i (stageAfterRecord (stageHere (d .plan) r) r))) (written-at d r e)
 
-  found-here : (e : (r .section ≡ 4) ⊎ (r .section ≡ 6)) → stageHere (d .plan) r ≡ stageOf (d .plan) (typeIn r) (stageIn r)
+  found-here : (e : (r .section ≡ 4) ⊎ (r .section ≡ 6)) → stageHere (d .plan) r ≡ stageOf (d .plan) (typeNamed r) (stageNamed r)
   found-here e = found-at rs d kept r e (named e)
 
   -- the stage that S or A names, and every other stage, after it
   after-here : (r .section ≡ 4) ⊎ (r .section ≡ 6)
-      → stageOf (written d r .plan) (typeIn r) (stageIn r) ≡ stageAfter (stageOf (d .plan) (typeIn r) (stageIn r)) r
+      → stageOf (draftAfter d r .plan) (typeNamed r) (stageNamed r) ≡ stageAfterRecord (stageOf (d .plan) (typeNamed r) (stageNamed r)) r
   after-here e =
-      let new = stageAfter (stageHere (d .plan) r) r in
-      ap (λ q. stageOf q (typeIn r) (stageIn r)) (rewritten e)
-      ∙ stages.stage-named (d .plan) (typeIn r) (stageIn r) (named e) (kept .total) (kept .sizes .stages) new
-      ∙ ap (λ s. stageAfter s r) (found-here e)
+      let new = stageAfterRecord (stageHere (d .plan) r) r in
+      ap (λ q. stageOf q (typeNamed r) (stageNamed r)) (rewritten e)
+      ∙ stages.stage-named (d .plan) (typeNamed r) (stageNamed r) (named e) (kept .total) (kept .sizes .stages) new
+      ∙ ap (λ s. stageAfterRecord s r) (found-here e)
 
-  after-apart : (r .section ≡ 4) ⊎ (r .section ≡ 6) → (t k : ℕ) → (¬ ((typeIn r ≡ t) × (stageIn r ≡ k)))
-      → stageOf (written d r .plan) t k ≡ stageOf (d .plan) t k
+  after-apart : (r .section ≡ 4) ⊎ (r .section ≡ 6) → (t k : ℕ) → (¬ ((typeNamed r ≡ t) × (stageNamed r ≡ k)))
+      → stageOf (draftAfter d r .plan) t k ≡ stageOf (d .plan) t k
   after-apart e t k apart =
-      let new = stageAfter (stageHere (d .plan) r) r in
+      let new = stageAfterRecord (stageHere (d .plan) r) r in
       ap (λ q. stageOf q t k) (rewritten e)
-      ∙ stages.stage-apart (d .plan) (typeIn r) (stageIn r) (named e) (kept .total) (kept .sizes .stages) new t k apart
+      ∙ stages.stage-apart (d .plan) (typeNamed r) (stageNamed r) (named e) (kept .total) (kept .sizes .stages) new t k apart
 
   -- C and T come before any demand and weight, and the other records leave the stages
-  unwritten-after : r .section ≤ 3 → r .section ≢ 4 → r .section ≢ 6 → (t k : ℕ) → stageOf (written d r .plan) t k ≡ stageOf (d .plan) t k
+  unwritten-after : r .section ≤ 3 → r .section ≢ 4 → r .section ≢ 6 → (t k : ℕ) → stageOf (draftAfter d r .plan) t k ≡ stageOf (d .plan) t k
   unwritten-after low a b t k =
       let none = kept .unwritten (omega (arith, taken .follows)) in
-      stages.blank-stage (written d r .plan) t k (stages.stages-same d r a b ∙ none) ∙ sym (stages.blank-stage (d .plan) t k none)
+      stages.blank-stage (draftAfter d r .plan) t k (stages.stages-same d r a b ∙ none) ∙ sym (stages.blank-stage (d .plan) t k none)
 
-  after-other : r .section ≢ 4 → r .section ≢ 6 → (t k : ℕ) → stageOf (written d r .plan) t k ≡ stageOf (d .plan) t k
+  after-other : r .section ≢ 4 → r .section ≢ 6 → (t k : ℕ) → stageOf (draftAfter d r .plan) t k ≡ stageOf (d .plan) t k
   after-other a b t k =
       ⊎-elim (λ (low : r .section ≤ 3). unwritten-after low a b t k)
       (λ (high : ¬ (r .section ≤ 3)). stages.stage-still d r a b (λ e. high (omega arith)) (λ e. high (omega arith)) t k)
       (decided (decides-le (r .section) 3))
 
   -- beyond the stages of all types nothing is written
-  beyond-named : (e : (r .section ≡ 4) ⊎ (r .section ≡ 6)) (i : ℕ) → allStages (written d r .plan) ≤ i
-      → getD (written d r .plan .stages) i noStage ≡ noStage
+  beyond-named : (e : (r .section ≡ 4) ⊎ (r .section ≡ 6)) (i : ℕ) → allStages (draftAfter d r .plan) ≤ i
+      → getD (draftAfter d r .plan .stages) i noStage ≡ noStage
   unfolding allStages
   beyond-named e i h =
       let there = named e in
       let fewer : allStages (d .plan) ≤ i = rw (rewritten e) at h in
-      let within = index-of-stage (d .plan) (typeIn r) (stageIn r) there in
+      let within = index-of-stage (d .plan) (typeNamed r) (stageNamed r) there in
       ap (λ (q : Plan). getD (q .stages) i noStage) (rewritten e)
-      ∙ getD-set-other (d .plan .stages) _ i (stageAfter (stageHere (d .plan) r) r) noStage (λ same. omega (arith, within, there .1, fewer))
+      ∙ getD-set-other (d .plan .stages) _ i (stageAfterRecord (stageHere (d .plan) r) r) noStage (λ same. omega (arith, within, there .1, fewer))
       ∙ kept .beyond i fewer
 
-  pub beyond-after : (i : ℕ) → allStages (written d r .plan) ≤ i → getD (written d r .plan .stages) i noStage ≡ noStage
+  pub beyond-after : (i : ℕ) → allStages (draftAfter d r .plan) ≤ i → getD (draftAfter d r .plan .stages) i noStage ≡ noStage
   beyond-after i h = go (decided (decides-eq (r .section) 4)) (decided (decides-eq (r .section) 6)) (decided (decides-le (r .section) 3))
     where
-      same-stages : r .section ≢ 4 → r .section ≢ 6 → getD (written d r .plan .stages) i noStage ≡ getD (d .plan .stages) i noStage
+      same-stages : r .section ≢ 4 → r .section ≢ 6 → getD (draftAfter d r .plan .stages) i noStage ≡ getD (d .plan .stages) i noStage
       same-stages a b = ap (λ (xs : List Stage). getD xs i noStage) (stages.stages-same d r a b)
 
       go : (r .section ≡ 4) ⊎ (r .section ≢ 4) → (r .section ≡ 6) ⊎ (r .section ≢ 6) → (r .section ≤ 3) ⊎ (¬ (r .section ≤ 3))
-          → getD (written d r .plan .stages) i noStage ≡ noStage
+          → getD (draftAfter d r .plan .stages) i noStage ≡ noStage
       go (inl e) b c = beyond-named (inl e) i h
       go (inr a) (inl e) c = beyond-named (inr e) i h
       go (inr a) (inr b) (inl low) =
@@ -398,84 +398,84 @@ module _ (rs : List Record) (d : Draft) (kept : Kept rs d) (r : Record) (taken :
 
   -- a family of entries of the stages
   module _ (h : Half) (laws : HalfLaws h) where
-    part-still : r .section ≢ h .section → (t k : ℕ) → h .part (stageOf (written d r .plan) t k) ≡ h .part (stageOf (d .plan) t k)
+    part-still : r .section ≢ h .section → (t k : ℕ) → h .part (stageOf (draftAfter d r .plan) t k) ≡ h .part (stageOf (d .plan) t k)
     part-still ne t k = go (decided (decides-eq (r .section) 4)) (decided (decides-eq (r .section) 6))
       where
-        changed-elsewhere : (r .section ≡ 4) ⊎ (r .section ≡ 6) → h .part (stageOf (written d r .plan) t k) ≡ h .part (stageOf (d .plan) t k)
+        changed-elsewhere : (r .section ≡ 4) ⊎ (r .section ≡ 6) → h .part (stageOf (draftAfter d r .plan) t k) ≡ h .part (stageOf (d .plan) t k)
         changed-elsewhere e =
             ⊎-elim
-            (λ (a : (typeIn r ≡ t) × (stageIn r ≡ k)).
-            rw (← (a .0), ← (a .1)) (ap (h .part) (after-here e) ∙ laws .keeps (stageOf (d .plan) (typeIn r) (stageIn r)) r ne))
-            (λ (a : ¬ ((typeIn r ≡ t) × (stageIn r ≡ k))). ap (h .part) (after-apart e t k a))
-            (same-place (typeIn r) (stageIn r) t k)
+            (λ (a : (typeNamed r ≡ t) × (stageNamed r ≡ k)).
+            rw (← (a .0), ← (a .1)) (ap (h .part) (after-here e) ∙ laws .keeps (stageOf (d .plan) (typeNamed r) (stageNamed r)) r ne))
+            (λ (a : ¬ ((typeNamed r ≡ t) × (stageNamed r ≡ k))). ap (h .part) (after-apart e t k a))
+            (same-stage (typeNamed r) (stageNamed r) t k)
 
         go : (r .section ≡ 4) ⊎ (r .section ≢ 4) → (r .section ≡ 6) ⊎ (r .section ≢ 6)
-            → h .part (stageOf (written d r .plan) t k) ≡ h .part (stageOf (d .plan) t k)
+            → h .part (stageOf (draftAfter d r .plan) t k) ≡ h .part (stageOf (d .plan) t k)
         go (inl e) b = changed-elsewhere (inl e)
         go (inr a) (inl e) = changed-elsewhere (inr e)
         go (inr a) (inr b) = ap (h .part) (after-other a b t k)
 
-    module _ (held : (k : Place) (v : ℕ) → InPlace h (d .plan) k v ↔ Has rs (h .of k v)) where
+    module _ (held : (k : Slot) (v : ℕ) → InSlot h (d .plan) k v ↔ Has rs (h .of k v)) where
       -- the record of the half is the first with its key
       module _ (e : r .section ≡ h .section) (within : InRange (h .number r) (h .size)) (value : 1 ≤ r .fourth)
           (nothing : at (h .part (stageHere (d .plan) r)) (h .number r) ≡ 0) where
         is : (r .section ≡ 4) ⊎ (r .section ≡ 6)
         is = laws .names r e
 
-        abbrev place : Place
-        place = (typeIn r, stageIn r, h .number r)
+        abbrev slot : Slot
+        slot = (typeNamed r, stageNamed r, h .number r)
 
         abbrev old : Stage
-        old = stageOf (d .plan) (typeIn r) (stageIn r)
+        old = stageOf (d .plan) (typeNamed r) (stageNamed r)
 
         empty : at (h .part old) (h .number r) ≡ 0
         empty = ap (λ s. at (h .part s) (h .number r)) (sym (found-here is)) ∙ nothing
 
         room : length (h .part old) ≡ h .size
-        room = rw (← (found-here is)) (laws .sized d (kept .sizes) (indexIn (d .plan .lengths) r))
+        room = rw (← (found-here is)) (laws .sized d (kept .sizes) (indexNamed (d .plan .lengths) r))
 
-        now : h .part (stageOf (written d r .plan) (typeIn r) (stageIn r)) ≡ put (h .part old) (h .number r) (r .fourth)
+        now : h .part (stageOf (draftAfter d r .plan) (typeNamed r) (stageNamed r)) ≡ put (h .part old) (h .number r) (r .fourth)
         now = ap (h .part) (after-here is) ∙ laws .writes old r e
 
-        here : at (h .part (stageOf (written d r .plan) (typeIn r) (stageIn r))) (h .number r) ≡ r .fourth
+        here : at (h .part (stageOf (draftAfter d r .plan) (typeNamed r) (stageNamed r))) (h .number r) ≡ r .fourth
         here =
             ap (λ xs. at xs (h .number r)) now
             ∙ put-same (h .part old) (h .number r) (r .fourth) (within .0, omega (arith, within, room))
 
-        stay : (j : Place) → (¬ (place ≡ j))
-            → at (h .part (stageOf (written d r .plan) (j .0) (j .1))) (j .2) ≡ at (h .part (stageOf (d .plan) (j .0) (j .1))) (j .2)
+        stay : (j : Slot) → (¬ (slot ≡ j))
+            → at (h .part (stageOf (draftAfter d r .plan) (j .0) (j .1))) (j .2) ≡ at (h .part (stageOf (d .plan) (j .0) (j .1))) (j .2)
         stay j ne =
             ⊎-elim
-            (λ (a : (typeIn r ≡ j .0) × (stageIn r ≡ j .1)).
+            (λ (a : (typeNamed r ≡ j .0) × (stageNamed r ≡ j .1)).
             let n : j .2 ≢ h .number r = λ b. ne (λ i. (a .0 i, a .1 i, sym b i)) in
             rw (← (a .0), ← (a .1))
             (ap (λ xs. at xs (j .2)) now ∙ put-other (h .part old) (h .number r) (j .2) (r .fourth) (within .0) n))
-            (λ (a : ¬ ((typeIn r ≡ j .0) × (stageIn r ≡ j .1))). ap (λ s. at (h .part s) (j .2)) (after-apart is (j .0) (j .1) a))
-            (same-place (typeIn r) (stageIn r) (j .0) (j .1))
+            (λ (a : ¬ ((typeNamed r ≡ j .0) × (stageNamed r ≡ j .1))). ap (λ s. at (h .part s) (j .2)) (after-apart is (j .0) (j .1) a))
+            (same-stage (typeNamed r) (stageNamed r) (j .0) (j .1))
 
-        same : (j : Place) → (place ≡ j) ⊎ (¬ (place ≡ j))
+        same : (j : Slot) → (slot ≡ j) ⊎ (¬ (slot ≡ j))
         same j =
             ⊎-elim
-            (λ (a : (typeIn r ≡ j .0) × (stageIn r ≡ j .1)).
+            (λ (a : (typeNamed r ≡ j .0) × (stageNamed r ≡ j .1)).
             ⊎-elim (λ (b : h .number r ≡ j .2). inl (λ i. (a .0 i, a .1 i, b i)))
-            (λ (b : ¬ (h .number r ≡ j .2)). inr (λ c. b (ap (λ (k : Place). k .2) c))) (decided (decides-eq (h .number r) (j .2))))
-            (λ (a : ¬ ((typeIn r ≡ j .0) × (stageIn r ≡ j .1))). inr (λ c. a (ap (λ (k : Place). k .0) c, ap (λ (k : Place). k .1) c)))
-            (same-place (typeIn r) (stageIn r) (j .0) (j .1))
+            (λ (b : ¬ (h .number r ≡ j .2)). inr (λ c. b (ap (λ (k : Slot). k .2) c))) (decided (decides-eq (h .number r) (j .2))))
+            (λ (a : ¬ ((typeNamed r ≡ j .0) × (stageNamed r ≡ j .1))). inr (λ c. a (ap (λ (k : Slot). k .0) c, ap (λ (k : Slot). k .1) c)))
+            (same-stage (typeNamed r) (stageNamed r) (j .0) (j .1))
 
-        own-held : (k : Place) (v : ℕ) → InPlace h (written d r .plan) k v ↔ Has (rs ++ r ∷ []) (h .of k v)
+        own-held : (k : Slot) (v : ℕ) → InSlot h (draftAfter d r .plan) k v ↔ Has (rs ++ r ∷ []) (h .of k v)
         own-held =
-            held-more (h .of) (InPlace h (d .plan)) (InPlace h (written d r .plan)) rs r held place (r .fourth) (laws .shape r e)
+            held-more (h .of) (InSlot h (d .plan)) (InSlot h (draftAfter d r .plan)) rs r held slot (r .fourth) (laws .shape r e)
             (λ w a. omega (arith, a, empty)) (value, here) (λ w a. sym here ∙ a .1)
             (λ j ne w. (λ a. (a .0, sym (stay j ne) ∙ a .1), λ a. (a .0, stay j ne ∙ a .1)))
-            (λ j w. laws .apart place (r .fourth) j w) same
+            (λ j w. laws .apart slot (r .fourth) j w) same
 
       pub half-held : (r .section ≡ h .section
           → InRange (h .number r) (h .size) × (1 ≤ r .fourth) × (at (h .part (stageHere (d .plan) r)) (h .number r) ≡ 0))
-          → (k : Place) (v : ℕ) → InPlace h (written d r .plan) k v ↔ Has (rs ++ r ∷ []) (h .of k v)
+          → (k : Slot) (v : ℕ) → InSlot h (draftAfter d r .plan) k v ↔ Has (rs ++ r ∷ []) (h .of k v)
       half-held own k v =
           ⊎-elim (λ (e : r .section ≡ h .section). let o = own e in own-held e (o .0) (o .1) (o .2) k v)
           (λ (ne : ¬ (r .section ≡ h .section)).
-          held-still (h .of) (InPlace h (d .plan)) (InPlace h (written d r .plan)) rs r held
+          held-still (h .of) (InSlot h (d .plan)) (InSlot h (draftAfter d r .plan)) rs r held
           (λ j w e. ne (ap (λ (q : Record). q .section) e ∙ laws .section-of j w))
           (λ j w.
           let still = ap (λ xs. at xs (j .2)) (part-still ne (j .0) (j .1)) in

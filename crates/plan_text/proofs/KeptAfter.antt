@@ -15,10 +15,10 @@ use Rattle.model.specs.Plan.{noStage, emptyPlan, allStages}
 use Rattle.model.specs.declared.Plan.{Plan}
 use Rattle.model.proofs.Decide.{decided, decides-eq}
 use Rattle.model.proofs.Lists.{replicated, append-each, each-map}
-use Rattle.plan_text.specs.Records.{Field, number, resource, kind, row, stage, units, Known, knownOf, highestIn, Has}
-use Rattle.plan_text.specs.ReaderParts.{FieldsInKnown, InKnown}
+use Rattle.plan_text.specs.Records.{Field, between, resource, kind, row, stage, units, Known, knownOf, highestIn, Has}
+use Rattle.plan_text.specs.ReaderInternals.{FieldsInKnown, InKnown}
 use Rattle.plan_text.specs.Records.{layoutOf, numbersOf}
-use Rattle.plan_text.specs.Written.{Draft, emptyDraft, entriesAfter, stageHere, written, heldIn}
+use Rattle.plan_text.specs.Draft.{Draft, emptyDraft, entriesAfter, stageHere, draftAfter, heldIn}
 use Rattle.plan_text.specs.TextQuestions.{lastSection, stagesIn}
 use Rattle.plan_text.specs.Meaning.{line}
 use Rattle.plan_text.specs.declared.Record.{Record}
@@ -38,7 +38,7 @@ pub record Grows (k l : Known) : Type 0 where
 
 module _ (k l : Known) (grows : Grows k l) where
   highest-grows : (before : ℕ) (f : Field) → highestIn k before f ≤ highestIn l before f
-  highest-grows before (number low high) = le-refl high
+  highest-grows before (between low high) = le-refl high
   highest-grows before resource = grows .resources
   highest-grows before kind = grows .types
   highest-grows before row = grows .rows
@@ -173,8 +173,8 @@ module _ (rs : List Record) (d : Draft) (kept : Kept rs d) where
         (λ (ne : ¬ (r .section ≡ 1)). rw (ne-eqb (r .section) 1 ne) (le-refl (of (d .plan))))
         (decided (decides-eq (r .section) 1))
 
-    grows : Grows (knownOf (d .plan)) (knownOf (written d r .plan))
-    unfolding written emptyPlan
+    grows : Grows (knownOf (d .plan)) (knownOf (draftAfter d r .plan))
+    unfolding draftAfter emptyPlan
     grows =
         record {
           resources = counts-grow (λ p. p .resources) (r .first) refl;
@@ -184,8 +184,8 @@ module _ (rs : List Record) (d : Draft) (kept : Kept rs d) where
           lengths = entries-grow 3 (d .plan .lengths) r (λ e. (own-length e .room .0, own-length e .empty));
         }
 
-    section-after : written d r .section ≡ r .section
-    unfolding written
+    section-after : draftAfter d r .section ≡ r .section
+    unfolding draftAfter
     section-after = rw (ne-eqb (r .section) 0 (λ e. omega (arith, taken .follows))) refl
 
     last-after : (qs : List Record) → lastSection (qs ++ r ∷ []) ≡ r .section
@@ -193,8 +193,8 @@ module _ (rs : List Record) (d : Draft) (kept : Kept rs d) where
     last-after (q ∷ []) = refl
     last-after (q ∷ p ∷ qs) = last-after (p ∷ qs)
 
-    counted-after : Has (rs ++ r ∷ []) (line 1 (written d r .plan .resources) (written d r .plan .types) (written d r .plan .rows) 0)
-    unfolding written
+    counted-after : Has (rs ++ r ∷ []) (line 1 (draftAfter d r .plan .resources) (draftAfter d r .plan .types) (draftAfter d r .plan .rows) 0)
+    unfolding draftAfter
     counted-after =
         ⊎-elim
         (λ (e : r .section ≡ 1).
@@ -207,8 +207,8 @@ module _ (rs : List Record) (d : Draft) (kept : Kept rs d) where
         (decided (decides-eq (r .section) 1))
 
     one-count-after : (a b c : ℕ) → Has (rs ++ r ∷ []) (line 1 a b c 0)
-        → (a ≡ written d r .plan .resources) × (b ≡ written d r .plan .types) × (c ≡ written d r .plan .rows)
-    unfolding written
+        → (a ≡ draftAfter d r .plan .resources) × (b ≡ draftAfter d r .plan .types) × (c ≡ draftAfter d r .plan .rows)
+    unfolding draftAfter
     one-count-after a b c has =
         ⊎-elim
         (λ (e : r .section ≡ 1).
@@ -229,8 +229,8 @@ module _ (rs : List Record) (d : Draft) (kept : Kept rs d) where
         alone none h = last (subst (λ qs. Has (qs ++ r ∷ []) (line 1 a b c 0)) none h)
 
     -- the stages of all types grow by those of a T
-    length-added : r .section ≡ 3 → allStages (written d r .plan) ≡ allStages (d .plan) + r .second
-    unfolding written allStages
+    length-added : r .section ≡ 3 → allStages (draftAfter d r .plan) ≡ allStages (d .plan) + r .second
+    unfolding draftAfter allStages
     length-added e =
         let own = own-length e in
         rw e (sum-put (d .plan .lengths) (r .first) (r .second) (own .room) (own .empty) (d .plan .types) (ranges-of 3 e .0 .1))
@@ -239,14 +239,14 @@ module _ (rs : List Record) (d : Draft) (kept : Kept rs d) where
     no-length zero = refl
     no-length (suc t) = replicated maxTypes t 0
 
-    nothing-added : r .section ≡ 1 → (allStages (written d r .plan) ≡ 0) × (stagesIn rs ≡ 0)
-    unfolding written allStages emptyDraft emptyPlan
+    nothing-added : r .section ≡ 1 → (allStages (draftAfter d r .plan) ≡ 0) × (stagesIn rs ≡ 0)
+    unfolding draftAfter allStages emptyDraft emptyPlan
     nothing-added e =
         let none = nothing-before e in
         let zeros : (t : ℕ) → 0 < t → at (d .plan .lengths) t ≡ 0 = λ t h. ap (λ (c : Draft). at (c .plan .lengths) t) (none .1) ∙ no-length t in
         (rw e (sum-beyond (at (d .plan .lengths)) 0 (r .second) (omega arith) zeros), ap stagesIn (none .0))
 
-    stages-more : allStages (written d r .plan) ≡ stagesIn (rs ++ r ∷ [])
+    stages-more : allStages (draftAfter d r .plan) ≡ stagesIn (rs ++ r ∷ [])
     stages-more =
         let both = stages-append rs (r ∷ []) in
         ⊎-elim (λ (e : r .section ≡ 3). both-said (rw (eq-eqb (r .section) 3 e) at both) (length-added e))
@@ -257,12 +257,12 @@ module _ (rs : List Record) (d : Draft) (kept : Kept rs d) where
         (decided (decides-eq (r .section) 1)))
         (decided (decides-eq (r .section) 3))
       where
-        both-said : stagesIn (rs ++ r ∷ []) ≡ stagesIn rs + (r .second + 0) → allStages (written d r .plan) ≡ allStages (d .plan) + r .second
-            → allStages (written d r .plan) ≡ stagesIn (rs ++ r ∷ [])
+        both-said : stagesIn (rs ++ r ∷ []) ≡ stagesIn rs + (r .second + 0) → allStages (draftAfter d r .plan) ≡ allStages (d .plan) + r .second
+            → allStages (draftAfter d r .plan) ≡ stagesIn (rs ++ r ∷ [])
         both-said said added = omega (arith, said, added, kept .summed)
 
-    pub kept-after : Kept (rs ++ r ∷ []) (written d r)
-    unfolding written
+    pub kept-after : Kept (rs ++ r ∷ []) (draftAfter d r)
+    unfolding draftAfter
     kept-after =
         record {
           sizes = sizes-after d r (kept .sizes);
@@ -273,8 +273,8 @@ module _ (rs : List Record) (d : Draft) (kept : Kept rs d) where
           unwritten = λ low.
               stages-same d r (λ e. omega (arith, section-after, low)) (λ e. omega (arith, section-after, low))
               ∙ kept .unwritten (omega (arith, section-after, low, taken .follows));
-          ranged = append-each (Ranged (knownOf (written d r .plan))) rs (r ∷ [])
-              (each-map (Ranged (knownOf (d .plan))) (Ranged (knownOf (written d r .plan))) (ranged-grows _ _ grows) rs (kept .ranged))
+          ranged = append-each (Ranged (knownOf (draftAfter d r .plan))) rs (r ∷ [])
+              (each-map (Ranged (knownOf (d .plan))) (Ranged (knownOf (draftAfter d r .plan))) (ranged-grows _ _ grows) rs (kept .ranged))
               (ranged-grows _ _ grows r (record { section = taken .follows .0; ranges = taken .ranges; blank = taken .blank }), tt);
           total = omega (arith, stages-more, taken .total, stages-append rs (r ∷ []));
           summed = stages-more;

@@ -14,8 +14,8 @@ use borrow.Author.Tests.{ne-eqb, lt-ltb}
 use Rattle.model.specs.Numbers.{Each, each}
 use Rattle.model.proofs.Decide.{Decides, holding, failing, passes, decides-iff, decides-eq, decides-le, decides-lt, decides-range}
 use Rattle.model.proofs.Decide.{decides-or, decides-each, _and_}
-use Rattle.plan_text.specs.Lines.{Line, tab, isSkipped, isPlain, parts, letterIn, fieldsIn}
-use Rattle.plan_text.specs.Records.{sections, sectionOf, layoutOf, Digit, IsNumber, isNumber, numberOn, fieldsOn, fieldsRead, noNumbers}
+use Rattle.plan_text.specs.Lines.{Line, tab, isSkipped, isPlain, columns, letterIn, fieldsIn}
+use Rattle.plan_text.specs.Records.{sections, sectionOf, layoutOf, Digit, IsNumeral, isNumeral, valueOn, fieldsOn, fieldsRead, noNumbers}
 use Rattle.plan_text.specs.Records.{recordWith, noRecord, recordIn}
 use Rattle.plan_text.specs.TextQuestions.{WellFormed, Follows}
 use Rattle.plan_text.specs.Reading.{follows}
@@ -42,31 +42,31 @@ decides-follows last section =
     (decides-range section sections and decides-le last section and decides-or (decides-lt 0 last) (decides-eq section 1))
 
 -- 4: fields read after n others
-pub decides-number : (bs : List ℕ) → Decides (IsNumber bs) (isNumber bs)
+pub decides-number : (bs : List ℕ) → Decides (IsNumeral bs) (isNumeral bs)
 decides-number bs = decides-range (length bs) 5 and decides-each (λ b. decides-le 48 b and decides-le b 57) bs
 
 -- a number of i digits is below 10 ^ i
 pub digit-below : (i x d : ℕ) → x < 10 ^ i → d ≤ 9 → 10 * x + d < 10 ^ (i + 1)
 digit-below i x d h k = let e : 10 ^ (i + 1) ≡ 10 * 10 ^ i = rw add-one (pow-succ' 10 i) in omega arith
 
-pub number-below : (bs : List ℕ) (i x : ℕ) → Each Digit bs → x < 10 ^ i → numberOn x bs < 10 ^ (i + length bs)
+pub number-below : (bs : List ℕ) (i x : ℕ) → Each Digit bs → x < 10 ^ i → valueOn x bs < 10 ^ (i + length bs)
 number-below [] i x h k = let e : i + 0 ≡ i = omega arith in rw e k
 number-below (b ∷ bs) i x h k =
     let e : i + suc (length bs) ≡ i + 1 + length bs = omega arith in
     rw e (number-below bs (i + 1) (10 * x + (b - 48)) (h .1) (digit-below i x (b - 48) k (omega (arith, h .0))))
 
-fields-counted : (n : ℕ) (xs : List ℕ) (fs : List (List ℕ)) → Each IsNumber fs → n + length fs ≤ 4 → fieldsOn n xs fs .count ≡ n + length fs
+fields-counted : (n : ℕ) (xs : List ℕ) (fs : List (List ℕ)) → Each IsNumeral fs → n + length fs ≤ 4 → fieldsOn n xs fs .count ≡ n + length fs
 fields-counted n xs [] h few = sym (add-zero n)
 fields-counted n xs (f ∷ fs) h few =
     rw (passes (decides-number f) (h .0), lt-ltb n 4 (omega arith)) (fields-counted (n + 1) _ fs (h .1) (omega arith) ∙ omega arith)
 
-fields-refused : (n : ℕ) (xs : List ℕ) (fs : List (List ℕ)) → n ≤ 4 → (¬ (Each IsNumber fs × (n + length fs ≤ 4))) → fieldsOn n xs fs .count ≡ 5
+fields-refused : (n : ℕ) (xs : List ℕ) (fs : List (List ℕ)) → n ≤ 4 → (¬ (Each IsNumeral fs × (n + length fs ≤ 4))) → fieldsOn n xs fs .count ≡ 5
 fields-refused n xs [] low h = absurd (h (tt, omega arith))
 fields-refused n xs (f ∷ fs) low h = go (λ low few. fields-refused (n + 1) _ fs low few) (decides-number f) (decides-lt n 4)
   where
-    go : (n + 1 ≤ 4 → (¬ (Each IsNumber fs × (n + 1 + length fs ≤ 4))) → fieldsOn (n + 1) (set xs n (numberOn 0 f)) fs .count ≡ 5)
-        → {a b : Bool} → Decides (IsNumber f) a → Decides (n < 4) b
-        → cond (a && b) (fieldsOn (n + 1) (set xs n (numberOn 0 f)) fs) (record { count = 5; numbers = xs }) .count ≡ 5
+    go : (n + 1 ≤ 4 → (¬ (Each IsNumeral fs × (n + 1 + length fs ≤ 4))) → fieldsOn (n + 1) (set xs n (valueOn 0 f)) fs .count ≡ 5)
+        → {a b : Bool} → Decides (IsNumeral f) a → Decides (n < 4) b
+        → cond (a && b) (fieldsOn (n + 1) (set xs n (valueOn 0 f)) fs) (record { count = 5; numbers = xs }) .count ≡ 5
     go rest (failing bad) d = refl
     go rest (holding good) (failing full) = refl
     go rest (holding good) (holding room) = rest (omega arith) (λ k. h ((good, k .0), omega (arith, k .1)))
@@ -74,34 +74,34 @@ fields-refused n xs (f ∷ fs) low h = go (λ low few. fields-refused (n + 1) _ 
 -- the numbers after those of the fields are as they were
 fields-after : (n : ℕ) (xs : List ℕ) (fs : List (List ℕ)) (i : ℕ) → n + length fs ≤ i → getD (fieldsOn n xs fs .numbers) i 0 ≡ getD xs i 0
 fields-after n xs [] i h = refl
-fields-after n xs (f ∷ fs) i h = go (fields-after (n + 1) _ fs i (omega arith)) (isNumber f && ltb n 4)
+fields-after n xs (f ∷ fs) i h = go (fields-after (n + 1) _ fs i (omega arith)) (isNumeral f && ltb n 4)
   where
-    go : getD (fieldsOn (n + 1) (set xs n (numberOn 0 f)) fs .numbers) i 0 ≡ getD (set xs n (numberOn 0 f)) i 0
-        → (b : Bool) → getD (cond b (fieldsOn (n + 1) (set xs n (numberOn 0 f)) fs) (record { count = 5; numbers = xs }) .numbers) i 0 ≡ getD xs i 0
+    go : getD (fieldsOn (n + 1) (set xs n (valueOn 0 f)) fs .numbers) i 0 ≡ getD (set xs n (valueOn 0 f)) i 0
+        → (b : Bool) → getD (cond b (fieldsOn (n + 1) (set xs n (valueOn 0 f)) fs) (record { count = 5; numbers = xs }) .numbers) i 0 ≡ getD xs i 0
     go rest false = refl
-    go rest true = rest ∙ getD-set-other xs n i (numberOn 0 f) 0 (λ e. omega arith)
+    go rest true = rest ∙ getD-set-other xs n i (valueOn 0 f) 0 (λ e. omega arith)
 
 -- and those of the fields are theirs, in order
-numbers-after : (n : ℕ) (xs : List ℕ) (fs : List (List ℕ)) → length xs ≡ 4 → n + length fs ≤ 4 → Each IsNumber fs
-    → take (n + length fs) (fieldsOn n xs fs .numbers) ≡ take n xs ++ map (numberOn 0) fs
+numbers-after : (n : ℕ) (xs : List ℕ) (fs : List (List ℕ)) → length xs ≡ 4 → n + length fs ≤ 4 → Each IsNumeral fs
+    → take (n + length fs) (fieldsOn n xs fs .numbers) ≡ take n xs ++ map (valueOn 0) fs
 numbers-after n xs [] size few h = rw (add-zero, append-nil) refl
 numbers-after n xs (f ∷ fs) size few h =
     let more : n + suc (length fs) ≡ n + 1 + length fs = omega arith in
-    let next = set xs n (numberOn 0 f) in
+    let next = set xs n (valueOn 0 f) in
     rw (passes (decides-number f) (h .0), lt-ltb n 4 (omega arith), more)
-    (numbers-after (n + 1) next fs (length-set xs n (numberOn 0 f) ∙ size) (omega arith) (h .1)
-    ∙ rw (add-one, take-suc-set xs n (numberOn 0 f) (omega arith), append-assoc) refl)
+    (numbers-after (n + 1) next fs (length-set xs n (valueOn 0 f) ∙ size) (omega arith) (h .1)
+    ∙ rw (add-one, take-suc-set xs n (valueOn 0 f) (omega arith), append-assoc) refl)
 
-pub numbers-told : (fs : List (List ℕ)) → length fs ≤ 4 → Each IsNumber fs → take (length fs) (fieldsRead fs .numbers) ≡ map (numberOn 0) fs
+pub numbers-told : (fs : List (List ℕ)) → length fs ≤ 4 → Each IsNumeral fs → take (length fs) (fieldsRead fs .numbers) ≡ map (valueOn 0) fs
 numbers-told fs few h = let e : 0 + length fs ≡ length fs = omega arith in rw e at (numbers-after 0 noNumbers fs refl (omega arith) h)
 
 -- there are four of them, whatever is read
 fields-four : (n : ℕ) (xs : List ℕ) (fs : List (List ℕ)) → length xs ≡ 4 → length (fieldsOn n xs fs .numbers) ≡ 4
 fields-four n xs [] h = h
-fields-four n xs (f ∷ fs) h = go (fields-four (n + 1) _ fs (length-set xs n (numberOn 0 f) ∙ h)) (isNumber f && ltb n 4)
+fields-four n xs (f ∷ fs) h = go (fields-four (n + 1) _ fs (length-set xs n (valueOn 0 f) ∙ h)) (isNumeral f && ltb n 4)
   where
-    go : length (fieldsOn (n + 1) (set xs n (numberOn 0 f)) fs .numbers) ≡ 4
-        → (b : Bool) → length (cond b (fieldsOn (n + 1) (set xs n (numberOn 0 f)) fs) (record { count = 5; numbers = xs }) .numbers) ≡ 4
+    go : length (fieldsOn (n + 1) (set xs n (valueOn 0 f)) fs .numbers) ≡ 4
+        → (b : Bool) → length (cond b (fieldsOn (n + 1) (set xs n (valueOn 0 f)) fs) (record { count = 5; numbers = xs }) .numbers) ≡ 4
     go rest true = rest
     go rest false = h
 
@@ -130,10 +130,10 @@ few-fields (suc (suc (suc (suc (suc (suc (suc (suc n)))))))) = omega arith
 
 -- so many fields and no others, each a number
 module _ (fs : List (List ℕ)) (m : ℕ) (few : m ≤ 4) where
-  pub decides-numbers : Decides ((length fs ≡ m) × Each IsNumber fs) (eqb (fieldsRead fs .count) m)
+  pub decides-numbers : Decides ((length fs ≡ m) × Each IsNumeral fs) (eqb (fieldsRead fs .count) m)
   decides-numbers = go (decides-each decides-number fs and decides-le (length fs) 4)
     where
-      go : {b : Bool} → Decides (Each IsNumber fs × (length fs ≤ 4)) b → Decides ((length fs ≡ m) × Each IsNumber fs) (eqb (fieldsRead fs .count) m)
+      go : {b : Bool} → Decides (Each IsNumeral fs × (length fs ≤ 4)) b → Decides ((length fs ≡ m) × Each IsNumeral fs) (eqb (fieldsRead fs .count) m)
       go (holding h) =
           let counted = fields-counted 0 noNumbers fs (h .0) (omega (arith, h .1)) ∙ zero-add (length fs) in
           rw counted (decides-iff (λ e. (e, h .0)) (λ k. k .0) (decides-eq (length fs) m))
@@ -143,7 +143,7 @@ module _ (fs : List (List ℕ)) (m : ℕ) (few : m ≤ 4) where
 
 module _ (fs : List (List ℕ)) (section : ℕ) where
   abbrev Fielded : Type 0
-  Fielded = (length fs ≡ length (layoutOf section)) × Each IsNumber fs
+  Fielded = (length fs ≡ length (layoutOf section)) × Each IsNumeral fs
 
   pub decides-fielded : Decides Fielded (eqb (fieldsRead fs .count) (length (layoutOf section)))
   decides-fielded = decides-numbers fs (length (layoutOf section)) (few-fields section)
@@ -172,7 +172,7 @@ module _ (fs : List (List ℕ)) (section : ℕ) where
 
 -- the record of a line that is one, and of a skipped line
 module _ (bytes : List ℕ) where
-  pub record-in : isSkipped bytes ≡ false → recordIn bytes ≡ recordWith (sectionOf (letterIn (parts bytes))) (fieldsRead (fieldsIn (parts bytes)) .numbers)
+  pub record-in : isSkipped bytes ≡ false → recordIn bytes ≡ recordWith (sectionOf (letterIn (columns bytes))) (fieldsRead (fieldsIn (columns bytes)) .numbers)
   unfolding recordIn
   record-in e = rw e refl
 

@@ -1,4 +1,4 @@
--- A text has one reading: each refusal as worded fixes number, line, place and plan, an accepted text's records say one plan, and only one
+-- A text has one reading: each refusal as worded fixes number, line, shown part and plan, an accepted text's records say one plan, and only one
 -- question is the first that fails.
 use Prim.Native.Nat.{ℕ, _+_}
 use mathlib.Core.List.{List, [], _∷_, _++_}
@@ -7,7 +7,7 @@ use lib.ListN.{length, getD}
 use Rattle.model.specs.Questions.{EachCondition, FirstFailure}
 use Rattle.model.proofs.Decide.{OneRefusal, conditions-append, failure-one}
 use Rattle.plan_text.specs.Lines.{Line, linesOf}
-use Rattle.plan_text.specs.TextQuestions.{textNumber, TextSays, Refuses, recordsOf, startAfter, lineConditions, linesConditions, lastConditions, textConditions, Accepts}
+use Rattle.plan_text.specs.TextQuestions.{textNumber, TextSays, RefusesText, recordsOf, startAfter, lineConditions, linesConditions, lastConditions, textConditions, Accepts}
 use Rattle.plan_text.specs.Reading.{reading}
 use Rattle.plan_text.specs.declared.Record.{Record}
 use Rattle.plan_text.specs.declared.TextAnswer.{TextAnswer}
@@ -39,7 +39,7 @@ module _ (text : List ℕ) where
       let to = s .to ∙ sym (t .to) in
       λ j. record { answer = answer j; line = line j; from = from j; to = to j; plan = plan j }
 
-  one-refused : (n i start : ℕ) (part : List ℕ) (a b : Reading) → Refuses text n i start part a → Refuses text n i start part b → a ≡ b
+  one-refused : (n i start : ℕ) (part : List ℕ) (a b : Reading) → RefusesText text n i start part a → RefusesText text n i start part b → a ≡ b
   one-refused n i start part a b s t = one-said n i start part a b (s .says) (t .says) (s .plan ∙ sym (t .plan))
 
   one-accepted : (a b : Reading) → Accepts text a → Accepts text b → a ≡ b
@@ -49,7 +49,7 @@ module _ (text : List ℕ) where
 
   one-line : (rs : List Record) (n from : ℕ) (l : Line) → EachCondition OneRefusal (lineConditions text rs n from l)
   one-line rs n from l =
-      let one : (number : ℕ) (a b : Reading) → Refuses text number n from (l .bytes) a → Refuses text number n from (l .bytes) b → a ≡ b =
+      let one : (number : ℕ) (a b : Reading) → RefusesText text number n from (l .bytes) a → RefusesText text number n from (l .bytes) b → a ≡ b =
       λ number. one-refused number n from (l .bytes) in
       (one 2, (one 3, (one 4, (one 5, (one 6, (one 5, tt))))))
 

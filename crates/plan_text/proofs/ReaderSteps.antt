@@ -21,11 +21,11 @@ use Rattle.model.proofs.Decide.{decided, decides-eq, decides-le, holds}
 use Rattle.model.proofs.Flat.{sum-up-to}
 use Rattle.plan_text.specs.Lines.{Line}
 use Rattle.plan_text.specs.Records.{Known, knownOf, recordIn, inRanges}
-use Rattle.plan_text.specs.ReaderParts.{InKnown}
-use Rattle.plan_text.specs.Written.{Draft, put, indexIn, entriesAfter, boundedAfter, stageAfter, written, heldIn, changed}
+use Rattle.plan_text.specs.ReaderInternals.{InKnown}
+use Rattle.plan_text.specs.Draft.{Draft, put, indexNamed, entriesAfter, boundedAfter, stageAfterRecord, draftAfter, heldIn, ofSection}
 use Rattle.plan_text.specs.Reading.{refused, formQuestions, withinTotal, recordQuestions, ofLine, readFrom}
 use Rattle.plan_text.specs.TextQuestions.{isAccepted}
-use Rattle.plan_text.specs.ReaderParts.{formAnswer, recordAnswer, narrowed, countsAfter, headAfter, draftWith, knownWith}
+use Rattle.plan_text.specs.ReaderInternals.{formAnswer, recordAnswer, narrowed, countsAfter, headAfter, draftWith, knownWith}
 use Rattle.plan_text.specs.Meaning.{line}
 use Rattle.plan_text.specs.declared.Record.{Record}
 use Rattle.plan_text.specs.declared.Counts.{Counts}
@@ -77,7 +77,7 @@ module _ (n from : ℕ) (d : Draft) (l : Line) (ls : List Line) where
   to = from + length (l .bytes)
 
   abbrev after : Reading
-  after = readFrom (n + 1) (to + 1) (written d (recordIn (l .bytes))) ls
+  after = readFrom (n + 1) (to + 1) (draftAfter d (recordIn (l .bytes))) ls
 
   abbrev answer : TextAnswer
   answer = recordAnswer (knownOf (d .plan)) (heldIn d (recordIn (l .bytes))) (d .plan .lengths) (recordIn (l .bytes))
@@ -133,10 +133,10 @@ module _ (k : Known) (bytes : (i : ℕ) → at (k .capacity) i ≤ 255) (r : Rec
   fourth-uncut (inl e) = uncut (r .fourth) 256 (omega (arith, ranges-of 4 e .1 .1 .1 .0, bytes (r .third)))
   fourth-uncut (inr e) = uncut (r .fourth) 256 (omega (arith, ranges-of 6 e .1 .1 .1 .0))
 
-  pub stage-uncut : (s : Stage) → stageAfter s (narrowed r) ≡ stageAfter s r
+  pub stage-uncut : (s : Stage) → stageAfterRecord s (narrowed r) ≡ stageAfterRecord s r
   stage-uncut s = go (decided (decides-eq (r .section) 4)) (decided (decides-eq (r .section) 6))
     where
-      go : (r .section ≡ 4) ⊎ (¬ (r .section ≡ 4)) → (r .section ≡ 6) ⊎ (¬ (r .section ≡ 6)) → stageAfter s (narrowed r) ≡ stageAfter s r
+      go : (r .section ≡ 4) ⊎ (¬ (r .section ≡ 4)) → (r .section ≡ 6) ⊎ (¬ (r .section ≡ 6)) → stageAfterRecord s (narrowed r) ≡ stageAfterRecord s r
       go (inl e) b = rw (fourth-uncut (inl e)) refl
       go (inr a) (inl e) = rw (fourth-uncut (inr e)) refl
       go (inr a) (inr b) = rw (ne-eqb (r .section) 4 a, ne-eqb (r .section) 6 b) refl
@@ -148,8 +148,8 @@ module _ (k : Known) (bytes : (i : ℕ) → at (k .capacity) i ≤ 255) (r : Rec
       (decided (decides-eq (r .section) 1))
 
   pub counts-uncut : (c : Counts)
-      → (countsAfter c r .resources ≡ changed r 1 (r .first) (c .resources)) × (countsAfter c r .types ≡ changed r 1 (r .second) (c .types))
-      × (countsAfter c r .rows ≡ changed r 1 (r .third) (c .rows))
+      → (countsAfter c r .resources ≡ ofSection r 1 (r .first) (c .resources)) × (countsAfter c r .types ≡ ofSection r 1 (r .second) (c .types))
+      × (countsAfter c r .rows ≡ ofSection r 1 (r .third) (c .rows))
   counts-uncut c = (
     count-uncut (r .first) (c .resources) (λ e. omega (arith, ranges-of 1 e .0)),
     count-uncut (r .second) (c .types) (λ e. omega (arith, ranges-of 1 e .1 .0)),
@@ -159,17 +159,17 @@ module _ (k : Known) (bytes : (i : ℕ) → at (k .capacity) i ≤ 255) (r : Rec
 -- the parts of a draft after a record, as the code makes them, are those of the draft with the record written
 module _ (h : Head) (capacity rank bound lengths : List ℕ) (stages : List Stage) (bounded : List ℕ) (r : Record) where
   pub parts-written : (bytes : (i : ℕ) → at capacity i ≤ 255) → inRanges (knownWith (h .counts) capacity lengths) r ≡ true
-      → (i : ℕ) → i ≡ indexIn lengths r → (s : Stage) → s ≡ stageAfter (getD stages i noStage) (narrowed r)
+      → (i : ℕ) → i ≡ indexNamed lengths r → (s : Stage) → s ≡ stageAfterRecord (getD stages i noStage) (narrowed r)
       → draftWith (headAfter h r) (entriesAfter 2 capacity (narrowed r)) (entriesAfter 7 rank (narrowed r)) (entriesAfter 5 bound (narrowed r))
       (entriesAfter 3 lengths (narrowed r)) (set stages i s) (boundedAfter bounded r)
-      ≡ written (draftWith h capacity rank bound lengths stages bounded) r
-  unfolding written
+      ≡ draftAfter (draftWith h capacity rank bound lengths stages bounded) r
+  unfolding draftAfter
   parts-written bytes met i at-index s made =
       let k = knownWith (h .counts) capacity lengths in
       let counts = counts-uncut k bytes r met (h .counts) in
-      let new : set stages i s ≡ set stages (indexIn lengths r) (stageAfter (getD stages (indexIn lengths r) noStage) r) =
+      let new : set stages i s ≡ set stages (indexNamed lengths r) (stageAfterRecord (getD stages (indexNamed lengths r) noStage) r) =
       ap (set stages i) (made ∙ stage-uncut k bytes r met (getD stages i noStage))
-      ∙ ap (λ j. set stages j (stageAfter (getD stages j noStage) r)) at-index in
+      ∙ ap (λ j. set stages j (stageAfterRecord (getD stages j noStage) r)) at-index in
       λ j. record {
         plan = record {
           resources = counts .0 j;
@@ -182,10 +182,10 @@ module _ (h : Head) (capacity rank bound lengths : List ℕ) (stages : List Stag
           stages = new j;
         };
         bounded = boundedAfter bounded r;
-        section = changed r 0 (h .section) (r .section);
+        section = ofSection r 0 (h .section) (r .section);
       }
 
--- the stages of all types stay within 128, so every stage that a record names has its place
+-- the stages of all types stay within 128, so every stage that a record names has its slot
 module _ (xs : List ℕ) (i v : ℕ) (low : 1 ≤ i) where
   put-most : (j : ℕ) → at (put xs i v) j ≤ at xs j + v
   put-most j =
@@ -204,12 +204,12 @@ module _ (xs : List ℕ) (i v : ℕ) (low : 1 ≤ i) where
       (λ (ne : ¬ (suc n ≡ i)). omega (arith, sum-most n, put-other xs i (suc n) v low ne))
       (decided (decides-eq (suc n) i))
 
-abbrev pub Few : List ℕ → Type 0
-Few lengths = sumTo maxTypes (at lengths) ≤ maxAllStages
+abbrev pub FewStages : List ℕ → Type 0
+FewStages lengths = sumTo maxTypes (at lengths) ≤ maxAllStages
 
 module _ (k : Known) (r : Record) (met : inRanges k r ≡ true) where
   -- after a record
-  pub few-after : Few (k .lengths) → withinTotal (k .lengths) r ≡ true → Few (entriesAfter 3 (k .lengths) r)
+  pub few-after : FewStages (k .lengths) → withinTotal (k .lengths) r ≡ true → FewStages (entriesAfter 3 (k .lengths) r)
   few-after few within =
       ⊎-elim
       (λ (e : r .section ≡ 3).
@@ -238,7 +238,7 @@ module _ (k : Known) (r : Record) (met : inRanges k r ≡ true) where
       (decided (decides-eq (r .section) 2))
 
   -- a stage that is in range
-  stage-fits : length (k .lengths) ≡ maxTypes → Few (k .lengths) → (t j : ℕ) → InRange t (k .types) → InRange j (at (k .lengths) t)
+  stage-fits : length (k .lengths) ≡ maxTypes → FewStages (k .lengths) → (t j : ℕ) → InRange t (k .types) → InRange j (at (k .lengths) t)
       → sumTo (t - 1) (at (k .lengths)) + (j - 1) < maxAllStages
   stage-fits size few zero j a b = absurd (omega (arith, a))
   stage-fits size few (suc t) j a b =
@@ -247,18 +247,18 @@ module _ (k : Known) (r : Record) (met : inRanges k r ≡ true) where
       (λ (h : ¬ (suc t ≤ maxTypes)). absurd (omega (arith, b, List·getD-eq-default (k .lengths) 0 {n = t} (omega (arith, size, h)))))
       (decided (decides-le (suc t) maxTypes)))
 
-  pub place-within : length (k .lengths) ≡ maxTypes → Few (k .lengths) → indexIn (k .lengths) r < maxAllStages
-  unfolding indexIn
-  place-within size few = go (decided (decides-eq (r .section) 4)) (decided (decides-eq (r .section) 6))
+  pub index-within : length (k .lengths) ≡ maxTypes → FewStages (k .lengths) → indexNamed (k .lengths) r < maxAllStages
+  unfolding indexNamed
+  index-within size few = go (decided (decides-eq (r .section) 4)) (decided (decides-eq (r .section) 6))
     where
-      place : (n : ℕ) → r .section ≡ n → indexIn (k .lengths) (line n (r .first) (r .second) (r .third) (r .fourth)) < maxAllStages
-          → indexIn (k .lengths) r < maxAllStages
-      place n e h = subst (λ q. indexIn (k .lengths) q < maxAllStages) (sym (of-section n r e)) h
+      place : (n : ℕ) → r .section ≡ n → indexNamed (k .lengths) (line n (r .first) (r .second) (r .third) (r .fourth)) < maxAllStages
+          → indexNamed (k .lengths) r < maxAllStages
+      place n e h = subst (λ q. indexNamed (k .lengths) q < maxAllStages) (sym (of-section n r e)) h
 
       ranges : (n : ℕ) → r .section ≡ n → InKnown k (line n (r .first) (r .second) (r .third) (r .fourth))
       ranges n e = subst (InKnown k) (of-section n r e) (holds (decides-ranges k r) met)
 
-      go : (r .section ≡ 4) ⊎ (¬ (r .section ≡ 4)) → (r .section ≡ 6) ⊎ (¬ (r .section ≡ 6)) → indexIn (k .lengths) r < maxAllStages
+      go : (r .section ≡ 4) ⊎ (¬ (r .section ≡ 4)) → (r .section ≡ 6) ⊎ (¬ (r .section ≡ 6)) → indexNamed (k .lengths) r < maxAllStages
       go (inl e) b = place 4 e (stage-fits size few (r .first) (r .second) (ranges 4 e .0) (ranges 4 e .1 .0))
       go (inr a) (inl e) = place 6 e (stage-fits size few (r .second) (r .third) (ranges 6 e .1 .0) (ranges 6 e .1 .1 .0))
       go (inr a) (inr b) = rw (ne-eqb (r .section) 4 a, ne-eqb (r .section) 6 b) (omega arith)

@@ -14,7 +14,7 @@ use Rattle.model.specs.Numbers.{InRange, at, sumTo, Each}
 use Rattle.model.proofs.Decide.{decided, decides-eq}
 use Rattle.plan_text.specs.Records.{Some, Has}
 use Rattle.plan_text.specs.TextQuestions.{stagesIn}
-use Rattle.plan_text.specs.Written.{put, entriesAfter}
+use Rattle.plan_text.specs.Draft.{put, entriesAfter}
 use Rattle.plan_text.specs.declared.Record.{Record}
 
 module _ (P : Record → Type 0) where

@@ -13,17 +13,17 @@ use Rattle.model.specs.Numbers.{InRange, at, sumTo, Each}
 use Rattle.model.specs.Plan.{emptyPlan, allStages, boundOf, stageOf}
 use Rattle.model.specs.declared.Plan.{Plan}
 use Rattle.model.proofs.Decide.{Decides, holding, failing, decided, decides-iff, decides-eq, decides-le, _and_}
-use Rattle.plan_text.specs.Records.{Field, number, resource, kind, row, stage, units, Known, knownOf, fitsFields, lowestIn, highestIn, inRanges}
+use Rattle.plan_text.specs.Records.{Field, between, resource, kind, row, stage, units, Known, knownOf, fitsFields, lowestIn, highestIn, inRanges}
 use Rattle.plan_text.specs.Records.{layoutOf, numbersOf, keyOf, Some, Has, sections}
-use Rattle.plan_text.specs.Written.{Draft, emptyDraft, heldIn}
+use Rattle.plan_text.specs.Draft.{Draft, emptyDraft, heldIn}
 use Rattle.plan_text.specs.TextQuestions.{IsResource, IsType, IsRow, IsStageOf, InField, InFields, InRanges, FirstWithKey, WithinTotal}
 use Rattle.plan_text.specs.Reading.{withinTotal}
-use Rattle.plan_text.specs.ReaderParts.{FieldsInKnown, InKnown}
+use Rattle.plan_text.specs.ReaderInternals.{FieldsInKnown, InKnown}
 use Rattle.plan_text.specs.Meaning.{line, C}
 use Rattle.plan_text.specs.declared.Record.{Record}
 use Rattle.plan_text.proofs.RecordLists.{each-some, none-each, each-none, some-map, has-each, sum-beyond}
 use Rattle.plan_text.proofs.Sections.{of-section, one-of-seven, Blank}
-use Rattle.plan_text.proofs.Kept.{Entry, Bounded, demandHalf, weightHalf, InPlace, Ranged, Kept, found-at}
+use Rattle.plan_text.proofs.Kept.{Entry, Bounded, demandHalf, weightHalf, InSlot, Ranged, Kept, found-at}
 use Rattle.plan_text.proofs.KeptAfter.{counts-fit}
 
 -- 5: the ranges of the fields
@@ -83,7 +83,7 @@ module _ (rs : List Record) (d : Draft) (kept : Kept rs d) where
   stage-told = entry-told 3 (d .plan .lengths) (kept .lengths)
 
   field-told : (before : ℕ) (f : Field) (x : ℕ) → ((lowestIn f ≤ x) × (x ≤ highestIn (knownOf (d .plan)) before f)) ↔ InField rs before f x
-  field-told before (number low high) x = (λ h. h, λ h. h)
+  field-told before (between low high) x = (λ h. h, λ h. h)
   field-told before resource x = resource-told x
   field-told before kind x = type-told x
   field-told before row x = row-told x
@@ -198,7 +198,7 @@ module _ (rs : List Record) (d : Draft) (kept : Kept rs d) where
   decides-demand a b c e fit =
       let here = found-at rs d kept (line 4 a b c e) (inl refl) (fit .0, fit .1 .0) in
       rw here
-      (decides-key (demandHalf .of) (InPlace demandHalf (d .plan)) rs known (kept .ranged) (kept .demands) (a, b, c) (line 4 a b c e)
+      (decides-key (demandHalf .of) (InSlot demandHalf (d .plan)) rs known (kept .ranged) (kept .demands) (a, b, c) (line 4 a b c e)
       (at (stageOf (d .plan) a b .demand) c) (λ z v h. omega (arith, h, z)) (λ ne. (_, (omega (arith, ne), refl))) (λ v. refl)
       (λ q ranged same. triple-made 4 a b c (λ x y z w. refl) known q ranged same))
 
@@ -207,7 +207,7 @@ module _ (rs : List Record) (d : Draft) (kept : Kept rs d) where
   decides-weight a b c e fit =
       let here = found-at rs d kept (line 6 a b c e) (inr refl) (fit .1 .0, fit .1 .1 .0) in
       rw here
-      (decides-key (weightHalf .of) (InPlace weightHalf (d .plan)) rs known (kept .ranged) (kept .weights) (b, c, a) (line 6 a b c e)
+      (decides-key (weightHalf .of) (InSlot weightHalf (d .plan)) rs known (kept .ranged) (kept .weights) (b, c, a) (line 6 a b c e)
       (at (stageOf (d .plan) b c .weight) a) (λ z v h. omega (arith, h, z)) (λ ne. (_, (omega (arith, ne), refl))) (λ v. refl)
       (λ q ranged same. triple-made 6 a b c (λ x y z w. refl) known q ranged same))
 

@@ -8,9 +8,9 @@ use mathlib.Core.Path.{_≡_, refl, sym, subst}
 use Rattle.model.specs.Numbers.{InRange, at}
 use Rattle.model.specs.Plan.{emptyPlan, demandOf, weightOf}
 use Rattle.plan_text.specs.Records.{Has}
-use Rattle.plan_text.specs.Meaning.{line, SaysSoFar, Says, Sized}
+use Rattle.plan_text.specs.Meaning.{line, RecordsSaySoFar, RecordsSay, Sized}
 use Rattle.plan_text.specs.TextQuestions.{Complete}
-use Rattle.plan_text.specs.Written.{draftOf, planOf}
+use Rattle.plan_text.specs.Draft.{draftOf, planOf}
 use Rattle.plan_text.specs.declared.Record.{Record}
 use Rattle.plan_text.proofs.Kept.{Kept}
 use Rattle.plan_text.proofs.RecordQuestions.{counted}
@@ -25,7 +25,7 @@ module _ (rs : List Record) (kept : Kept rs (draftOf rs)) where
     λ has. let e = kept .one-count a b c has in (sym (e .0), sym (e .1), sym (e .2)),
   )
 
-  pub says-so-far : SaysSoFar rs (planOf rs)
+  pub says-so-far : RecordsSaySoFar rs (planOf rs)
   unfolding demandOf weightOf emptyPlan
   says-so-far =
       record {
@@ -46,7 +46,7 @@ module _ (rs : List Record) (kept : Kept rs (draftOf rs)) where
   marked c w within =
       ⊎-elim (λ (m : at (draftOf rs .bounded) w ≡ 1). m) (λ m. absurd (omega (arith, m .0, complete-bounds rs kept c w within))) (kept .flags w)
 
-  pub records-say : Complete rs → Says rs (planOf rs)
+  pub records-say : Complete rs → RecordsSay rs (planOf rs)
   records-say c =
       record {
         so-far = says-so-far;

@@ -16,7 +16,7 @@ use Rattle.plan_text.specs.Lines.{linesOf}
 use Rattle.plan_text.specs.Records.{Has}
 use Rattle.plan_text.specs.TextQuestions.{textNumber, recordsOf}
 use Rattle.plan_text.specs.Reading.{reading}
-use Rattle.plan_text.specs.Meaning.{R, T, S, B, A, K, SaysSoFar, Says, Sized, SameRecords}
+use Rattle.plan_text.specs.Meaning.{R, T, S, B, A, K, RecordsSaySoFar, RecordsSay, Sized, SameRecords}
 use Rattle.plan_text.specs.declared.Record.{Record}
 use Rattle.plan_text.proofs.StageWritten.{stage-here}
 use Rattle.plan_text.proofs.RecordsSay.{records-say, records-sized}
@@ -50,17 +50,17 @@ told x y there back =
     (decided (decides-eq x 0))
 
 -- entries of two lists that are all 0
-zeros : (xs ys : List ℕ) → ZeroBeyond 0 xs → ZeroBeyond 0 ys → (i : ℕ) → at xs i ≡ at ys i
-zeros xs ys none nothing zero = refl
-zeros xs ys none nothing (suc i) = none (suc i) (omega arith) ∙ sym (nothing (suc i) (omega arith))
+zeros-alike : (xs ys : List ℕ) → ZeroBeyond 0 xs → ZeroBeyond 0 ys → (i : ℕ) → at xs i ≡ at ys i
+zeros-alike xs ys none nothing zero = refl
+zeros-alike xs ys none nothing (suc i) = none (suc i) (omega arith) ∙ sym (nothing (suc i) (omega arith))
 
 -- lists are equal whose entries, counted from 1, are
 lists-equal : (xs ys : List ℕ) → length xs ≡ length ys → ((i : ℕ) → at xs i ≡ at ys i) → xs ≡ ys
 lists-equal xs ys size same = ext-getD 0 xs ys size (λ i h. same (suc i))
 
 -- two sound plans that the same records say
-module _ (rs : List Record) (p q : Plan) (sized : Sized p) (as-sized : Sized q) (sound : Sound p) (as-sound : Sound q) (says : SaysSoFar rs p)
-    (too : SaysSoFar rs q) where
+module _ (rs : List Record) (p q : Plan) (sized : Sized p) (as-sized : Sized q) (sound : Sound p) (as-sound : Sound q) (says : RecordsSaySoFar rs p)
+    (too : RecordsSaySoFar rs q) where
   counts-told : (p .resources ≡ q .resources) × (p .types ≡ q .types) × (p .rows ≡ q .rows)
   counts-told = let some = as-sound .resources .0 in says .counts _ _ _ some .1 (too .counts _ _ _ some .0 (refl, refl, refl))
 
@@ -101,7 +101,7 @@ module _ (rs : List Record) (p q : Plan) (sized : Sized p) (as-sized : Sized q) 
       past h =
           let none = sound .no-more-stages (suc i) (omega arith) in
           let nothing = as-sound .no-more-stages (suc i) (omega (arith, total-told, h)) in
-          stage-same i (zeros _ _ (none .0) (nothing .0)) (zeros _ _ (none .1) (nothing .1))
+          stage-same i (zeros-alike _ _ (none .0) (nothing .0)) (zeros-alike _ _ (none .1) (nothing .1))
 
       here : suc i ≤ allStages p → getD (p .stages) i noStage ≡ getD (q .stages) i noStage
       here h =
@@ -137,7 +137,7 @@ module _ (rs : List Record) (p q : Plan) (sized : Sized p) (as-sized : Sized q) 
       }
 
 -- what is said with some records is said with the same records in another list
-says-as : (rs qs : List Record) (p : Plan) → SameRecords rs qs → SaysSoFar rs p → SaysSoFar qs p
+says-as : (rs qs : List Record) (p : Plan) → SameRecords rs qs → RecordsSaySoFar rs p → RecordsSaySoFar qs p
 says-as rs qs p same says =
     record {
       counts = λ a b c h. through (says .counts a b c h) (same _);
@@ -154,7 +154,7 @@ says-as rs qs p same says =
 
 module _ (text : List ℕ) (zero-answered : textNumber (reading text .answer) ≡ 0) where
   -- an accepted text says its plan
-  pub accepted-says : Says (recordsOf (linesOf text)) (reading text .plan)
+  pub accepted-says : RecordsSay (recordsOf (linesOf text)) (reading text .plan)
   accepted-says = let w = accepted-whole text zero-answered in rw (w .handed) (records-say _ (w .kept) (w .complete))
 
   pub accepted-sized : Sized (reading text .plan)

@@ -51,7 +51,7 @@ module _ (s : ℕ) where
     pub split-last : indexOf s bs ≡ length bs → splitBy s bs ≡ take (indexOf s bs) bs ∷ []
     split-last h = split-first bs ∙ rw (h, drop-length bs) refl
 
-    -- from a place of the list on, where a search that starts there ends
+    -- from an offset of the list on, where a search that starts there ends
     pub split-from : (from end : ℕ) → end ≡ from + indexOf s (slice from (length bs) bs)
         → splitBy s (drop from bs) ≡ take (end - from) (drop from bs) ∷ partsAfter s (drop end bs)
     unfolding slice
@@ -62,23 +62,23 @@ module _ (s : ℕ) where
         rw (size, found, ← drop-drop (indexOf s (drop from bs)) from bs) (split-first (drop from bs))
 
 -- parts put together, with the separator between them
-abbrev pub joined : ℕ → List (List ℕ) → List ℕ
-joined s [] = []
-joined s (p ∷ []) = p
-joined s (p ∷ q ∷ ps) = p ++ s ∷ joined s (q ∷ ps)
+abbrev pub joinedBy : ℕ → List (List ℕ) → List ℕ
+joinedBy s [] = []
+joinedBy s (p ∷ []) = p
+joinedBy s (p ∷ q ∷ ps) = p ++ s ∷ joinedBy s (q ∷ ps)
 
 module _ (s : ℕ) where
-  joined-after : (ps : List (List ℕ)) → ps ≢ [] → joined s ([] ∷ ps) ≡ s ∷ joined s ps
+  joined-after : (ps : List (List ℕ)) → ps ≢ [] → joinedBy s ([] ∷ ps) ≡ s ∷ joinedBy s ps
   joined-after [] some = absurd (some refl)
   joined-after (p ∷ ps) some = refl
 
-  joined-wider : (b : ℕ) (ps : List (List ℕ)) → joined s (wider b ps) ≡ b ∷ joined s ps
+  joined-wider : (b : ℕ) (ps : List (List ℕ)) → joinedBy s (wider b ps) ≡ b ∷ joinedBy s ps
   joined-wider b [] = refl
   joined-wider b (p ∷ []) = refl
   joined-wider b (p ∷ q ∷ ps) = refl
 
   -- the parts are the list again, and none of them has a separator
-  pub split-joined : (bs : List ℕ) → joined s (splitBy s bs) ≡ bs
+  pub split-joined : (bs : List ℕ) → joinedBy s (splitBy s bs) ≡ bs
   split-joined [] = refl
   split-joined (b ∷ bs) =
       ⊎-elim

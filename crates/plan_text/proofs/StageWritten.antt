@@ -19,7 +19,7 @@ use Rattle.model.specs.declared.Plan.{Plan}
 use Rattle.model.proofs.Decide.{Decides, holding, failing, passes, decides-range, _and_}
 use Rattle.model.proofs.Flat.{index-of-stage, one-at-index}
 use Rattle.model.proofs.Lists.{replicated}
-use Rattle.plan_text.specs.Written.{Draft, indexIn, written}
+use Rattle.plan_text.specs.Draft.{Draft, indexNamed, draftAfter}
 use Rattle.plan_text.specs.declared.Record.{Record}
 
 -- an entry counted from 1, read from 0
@@ -101,15 +101,15 @@ module _ (d : Draft) (r : Record) where
   p = d .plan
 
   abbrev next : Plan
-  next = written d r .plan
+  next = draftAfter d r .plan
 
   -- a record that names no stage writes the stage that stands there
   pub stages-same : r .section ≢ 4 → r .section ≢ 6 → next .stages ≡ p .stages
-  unfolding written
-  stages-same a b = rw (ne-eqb (r .section) 4 a, ne-eqb (r .section) 6 b) (set-getD (p .stages) (indexIn (p .lengths) r) noStage)
+  unfolding draftAfter
+  stages-same a b = rw (ne-eqb (r .section) 4 a, ne-eqb (r .section) 6 b) (set-getD (p .stages) (indexNamed (p .lengths) r) noStage)
 
   pub stage-still : r .section ≢ 4 → r .section ≢ 6 → r .section ≢ 1 → r .section ≢ 3 → (t k : ℕ) → stageOf next t k ≡ stageOf p t k
-  unfolding written stageOf isStage
+  unfolding draftAfter stageOf isStage
   stage-still a b c e t k =
       let same = stages-same a b in
       rw (ne-eqb (r .section) 1 c, ne-eqb (r .section) 3 e)

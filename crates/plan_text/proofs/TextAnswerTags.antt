@@ -13,12 +13,12 @@ use Rattle.plan_text.proofs.TextAnswer.{the-type}
 abbrev refusals : List ℕ
 refusals = 1 ∷ 2 ∷ 3 ∷ 4 ∷ 5 ∷ 6 ∷ 7 ∷ []
 
-pub refused-tag : (a : TextAnswer) → OneOf refusals (tagOf the-type a) → isAccepted a ≡ false
-refused-tag Accepted h = absurd (miss refusals 0 tt h)
-refused-tag TooLong h = refl
-refused-tag BadLine h = refl
-refused-tag BadLetter h = refl
-refused-tag BadFields h = refl
-refused-tag OutOfRange h = refl
-refused-tag Repeated h = refl
-refused-tag Incomplete h = refl
+pub refused-text-tag : (a : TextAnswer) → OneOf refusals (tagOf the-type a) → isAccepted a ≡ false
+refused-text-tag Accepted h = absurd (miss refusals 0 tt h)
+refused-text-tag TooLong h = refl
+refused-text-tag BadLine h = refl
+refused-text-tag BadLetter h = refl
+refused-text-tag BadFields h = refl
+refused-text-tag OutOfRange h = refl
+refused-text-tag Repeated h = refl
+refused-text-tag Incomplete h = refl

@@ -1,4 +1,4 @@
--- What a plan text means, to be read in this order: its lines, the line that begins at a place, its records, what records say of a
+-- What a plan text means, to be read in this order: its lines, the line that begins at an offset, its records, what records say of a
 -- plan, the questions 1 to 7 as they are worded, and the same computed: the plan that records write, and the text read.
 pub mod Lines
 pub mod LineReading
@@ -6,8 +6,8 @@ pub mod TextParts
 pub mod Records
 pub mod Meaning
 pub mod TextQuestions
-pub mod Written
+pub mod Draft
 pub mod Reading
 pub mod Framed
 -- What inner functions of the reader compute, and what their proofs go by; no promise rests on it.
-pub mod ReaderParts
+pub mod ReaderInternals

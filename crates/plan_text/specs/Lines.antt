@@ -60,8 +60,8 @@ abbrev pub isPlain : ℕ → Bool
 isPlain b = eqb b tab || (leb 32 b && leb b 126)
 
 -- the parts of a line between its tabs
-abbrev pub parts : List ℕ → List (List ℕ)
-parts bytes = splitBy tab bytes
+abbrev pub columns : List ℕ → List (List ℕ)
+columns bytes = splitBy tab bytes
 
 -- the letter of a record (document 01's terms) is the part before the first tab, and its fields are the parts after it
 abbrev pub letterIn : List (List ℕ) → List ℕ

@@ -40,7 +40,7 @@ abbrev pub K : ℕ → ℕ → Record
 K resource rank = line 7 resource rank 0 0
 
 -- what records say of the plan so far: a value of 1 or more is held exactly when its record is there, and what is not there yet is 0
-pub record SaysSoFar (rs : List Record) (p : Plan) : Type 0 where
+pub record RecordsSaySoFar (rs : List Record) (p : Plan) : Type 0 where
   pub counts : (a b c : ℕ) → 1 ≤ a → ((p .resources ≡ a) × (p .types ≡ b) × (p .rows ≡ c)) ↔ Has rs (C a b c)
   pub capacities : (r v : ℕ) → 1 ≤ v → (capacityOf p r ≡ v) ↔ Has rs (R r v)
   pub lengths : (t v : ℕ) → 1 ≤ v → (lengthOf p t ≡ v) ↔ Has rs (T t v)
@@ -50,8 +50,8 @@ pub record SaysSoFar (rs : List Record) (p : Plan) : Type 0 where
   pub ranks : (r v : ℕ) → 1 ≤ v → (rankOf p r ≡ v) ↔ Has rs (K r v)
 
 -- and of the whole plan: it has its counts, and every row its bound, which may be 0
-pub record Says (rs : List Record) (p : Plan) : Type 0 where
-  pub so-far : SaysSoFar rs p
+pub record RecordsSay (rs : List Record) (p : Plan) : Type 0 where
+  pub so-far : RecordsSaySoFar rs p
   pub counts : (a b c : ℕ) → ((p .resources ≡ a) × (p .types ≡ b) × (p .rows ≡ c)) ↔ Has rs (C a b c)
   pub bounds : (w v : ℕ) → InRange w (p .rows) → (boundOf p w ≡ v) ↔ Has rs (B w v)
 

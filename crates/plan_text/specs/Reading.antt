@@ -10,9 +10,9 @@ use Rattle.model.specs.Questions.{Question, ask, answerOf}
 use Rattle.model.specs.Plan.{emptyPlan}
 use Rattle.model.specs.Soundness.{sound}
 use Rattle.model.specs.declared.Plan.{Plan}
-use Rattle.plan_text.specs.Lines.{Line, linesOf, isSkipped, isPlain, parts, fieldsIn}
+use Rattle.plan_text.specs.Lines.{Line, linesOf, isSkipped, isPlain, columns, fieldsIn}
 use Rattle.plan_text.specs.Records.{sections, layoutOf, knownOf, fieldsRead, recordIn, inRanges}
-use Rattle.plan_text.specs.Written.{Draft, emptyDraft, written, heldIn}
+use Rattle.plan_text.specs.Draft.{Draft, emptyDraft, draftAfter, heldIn}
 use Rattle.plan_text.specs.TextQuestions.{maxText}
 use Rattle.plan_text.specs.declared.Record.{Record}
 use Rattle.plan_text.specs.declared.TextAnswer.{TextAnswer}
@@ -36,7 +36,7 @@ formQuestions last l =
     let section = recordIn (l .bytes) .section in
     ask (l .ended && each isPlain (l .bytes)) BadLine
     ∷ ask (isSkipped (l .bytes) || follows last section) BadLetter
-    ∷ ask (isSkipped (l .bytes) || eqb (fieldsRead (fieldsIn (parts (l .bytes))) .count) (length (layoutOf section))) BadFields
+    ∷ ask (isSkipped (l .bytes) || eqb (fieldsRead (fieldsIn (columns (l .bytes))) .count) (length (layoutOf section))) BadFields
     ∷ []
 
 -- 5 of all types together
@@ -51,7 +51,7 @@ recordQuestions d r =
     ∷ ask (withinTotal (d .plan .lengths) r) OutOfRange
     ∷ []
 
--- a question of line n, which stands in the text from one place to another
+-- a question of line n, which stands in the text from one offset to another
 abbrev pub ofLine : ℕ → ℕ → ℕ → Question TextAnswer → Question Reading
 ofLine n from to q = ask (q .met) (refused (q .refusal) n from to)
 
@@ -63,11 +63,11 @@ lineQuestions n from d l =
 unfoldable pub isComplete : Draft → Bool
 isComplete d = sound (d .plan) && allTo (d .plan .rows) (λ (w : ℕ). leb 1 (at (d .bounded) w))
 
--- the lines after the first n, from a place of the text on
+-- the lines after the first n, from an offset of the text on
 abbrev pub readFrom : ℕ → ℕ → Draft → List Line → Reading
 readFrom n from d [] = cond (isComplete d) (accepted (d .plan)) (refused Incomplete (n + 1) 0 0)
 readFrom n from d (l ∷ ls) =
-    answerOf (readFrom (n + 1) (from + length (l .bytes) + 1) (written d (recordIn (l .bytes))) ls) (lineQuestions (n + 1) from d l)
+    answerOf (readFrom (n + 1) (from + length (l .bytes) + 1) (draftAfter d (recordIn (l .bytes))) ls) (lineQuestions (n + 1) from d l)
 
 unfoldable pub reading : List ℕ → Reading
 reading text = cond (leb (length text) maxText) (readFrom 0 0 emptyDraft (linesOf text)) (refused TooLong 0 0 0)

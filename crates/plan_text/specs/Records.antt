@@ -9,7 +9,7 @@ use lib.ListN.{length, take, getD, set}
 use Rattle.model.specs.Limits.{maxResources, maxTypes, maxRows, maxStages, maxUnits, maxBound}
 use Rattle.model.specs.Numbers.{InRange, inRange, entry, at, Each, each}
 use Rattle.model.specs.declared.Plan.{Plan}
-use Rattle.plan_text.specs.Lines.{isSkipped, parts, letterIn, fieldsIn}
+use Rattle.plan_text.specs.Lines.{isSkipped, columns, letterIn, fieldsIn}
 use Rattle.plan_text.specs.declared.Record.{Record}
 use Rattle.plan_text.specs.declared.Fields.{Fields}
 
@@ -34,7 +34,7 @@ sectionOf (b ∷ c ∷ bs) = 0
 -- what a field's number is: one of a fixed range, the number of a resource, a type, a row, or a stage of the type in the
 -- field before, or units of the resource in the field before
 pub data Field : Type 0 where
-  number : ℕ → ℕ → Field
+  between : ℕ → ℕ → Field
   resource : Field
   kind : Field
   row : Field
@@ -44,13 +44,13 @@ pub data Field : Type 0 where
 -- the fields of each section's records
 abbrev pub layouts : List (List Field)
 layouts =
-    (number 1 maxResources ∷ number 1 maxTypes ∷ number 0 maxRows ∷ [])
-    ∷ (resource ∷ number 1 maxUnits ∷ [])
-    ∷ (kind ∷ number 1 maxStages ∷ [])
+    (between 1 maxResources ∷ between 1 maxTypes ∷ between 0 maxRows ∷ [])
+    ∷ (resource ∷ between 1 maxUnits ∷ [])
+    ∷ (kind ∷ between 1 maxStages ∷ [])
     ∷ (kind ∷ stage ∷ resource ∷ units ∷ [])
-    ∷ (row ∷ number 0 maxBound ∷ [])
-    ∷ (row ∷ kind ∷ stage ∷ number 1 maxUnits ∷ [])
-    ∷ (resource ∷ number 1 maxUnits ∷ [])
+    ∷ (row ∷ between 0 maxBound ∷ [])
+    ∷ (row ∷ kind ∷ stage ∷ between 1 maxUnits ∷ [])
+    ∷ (resource ∷ between 1 maxUnits ∷ [])
     ∷ []
 
 abbrev pub layoutOf : ℕ → List Field
@@ -70,7 +70,7 @@ knownOf p =
 
 -- the lowest and the highest number of a field, which may go by the number before it
 abbrev pub lowestIn : Field → ℕ
-lowestIn (number low high) = low
+lowestIn (between low high) = low
 lowestIn resource = 1
 lowestIn kind = 1
 lowestIn row = 1
@@ -78,7 +78,7 @@ lowestIn stage = 1
 lowestIn units = 1
 
 abbrev pub highestIn : Known → ℕ → Field → ℕ
-highestIn k before (number low high) = high
+highestIn k before (between low high) = high
 highestIn k before resource = k .resources
 highestIn k before kind = k .types
 highestIn k before row = k .rows
@@ -93,27 +93,27 @@ fitsField k before f x = leb (lowestIn f) x && leb x (highestIn k before f)
 abbrev pub Digit : ℕ → Type 0
 Digit b = (48 ≤ b) × (b ≤ 57)
 
-abbrev pub IsNumber : List ℕ → Type 0
-IsNumber bs = InRange (length bs) 5 × Each Digit bs
+abbrev pub IsNumeral : List ℕ → Type 0
+IsNumeral bs = InRange (length bs) 5 × Each Digit bs
 
 -- their tests
 abbrev pub isDigit : ℕ → Bool
 isDigit b = leb 48 b && leb b 57
 
-abbrev pub isNumber : List ℕ → Bool
-isNumber bs = inRange (length bs) 5 && each isDigit bs
+abbrev pub isNumeral : List ℕ → Bool
+isNumeral bs = inRange (length bs) 5 && each isDigit bs
 
 -- the number that digits say, after those of x
-abbrev pub numberOn : ℕ → List ℕ → ℕ
-numberOn x [] = x
-numberOn x (b ∷ bs) = numberOn (10 * x + (b - 48)) bs
+abbrev pub valueOn : ℕ → List ℕ → ℕ
+valueOn x [] = x
+valueOn x (b ∷ bs) = valueOn (10 * x + (b - 48)) bs
 
 -- fields read one after the other, after the n whose numbers are at hand; 5 for what no record has, a field that is no number
 -- or a fifth. Where all are numbers, and at most four, these are theirs, in order (`numbers-told`)
 abbrev pub fieldsOn : ℕ → List ℕ → List (List ℕ) → Fields
 fieldsOn n xs [] = record { count = n; numbers = xs }
 fieldsOn n xs (f ∷ fs) =
-    cond (isNumber f && ltb n 4) (fieldsOn (n + 1) (set xs n (numberOn 0 f)) fs) (record { count = 5; numbers = xs })
+    cond (isNumeral f && ltb n 4) (fieldsOn (n + 1) (set xs n (valueOn 0 f)) fs) (record { count = 5; numbers = xs })
 
 abbrev pub noNumbers : List ℕ
 noNumbers = 0 ∷ 0 ∷ 0 ∷ 0 ∷ []
@@ -131,7 +131,7 @@ noRecord = recordWith 0 noNumbers
 
 unfoldable pub recordIn : List ℕ → Record
 recordIn bytes =
-    cond (isSkipped bytes) noRecord (recordWith (sectionOf (letterIn (parts bytes))) (fieldsRead (fieldsIn (parts bytes)) .numbers))
+    cond (isSkipped bytes) noRecord (recordWith (sectionOf (letterIn (columns bytes))) (fieldsRead (fieldsIn (columns bytes)) .numbers))
 
 abbrev pub numbersOf : Record → List ℕ
 numbersOf r = r .first ∷ r .second ∷ r .third ∷ r .fourth ∷ []

@@ -6,11 +6,11 @@ use denote.Ref.{RefT, now}
 use lib.ListN.{length, take, drop}
 use Rattle.plan_text.specs.declared.Reading.{Reading}
 
--- where a part begins, counted from the start of the text, if it goes from one place up to another; both are cut to the text
+-- where a part begins, counted from the start of the text, if it goes from one offset up to another; both are cut to the text
 abbrev pub partStart : List ℕ → ℕ → ℕ → ℕ
 partStart text from to = min from (min to (length text))
 
--- the bytes of the text from one place up to another, at their own place in memory
+-- the bytes of the text from one offset up to another, at their own place in memory
 pub record IsPart (text : RefT (List ℕ)) (from to : ℕ) (part : RefT (List ℕ)) : Type 0 where
   pub bytes : now part ≡ take (to - from) (drop from (now text))
   pub place : part .ptr ≡ (text .ptr .0, text .ptr .1 + partStart (now text) from to)

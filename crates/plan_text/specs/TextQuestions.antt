@@ -12,10 +12,10 @@ use Rattle.model.specs.Numbers.{InRange, Each}
 use Rattle.model.specs.Questions.{Condition, asks, AllHold}
 use Rattle.model.specs.Plan.{emptyPlan}
 use Rattle.model.specs.Soundness.{Sound}
-use Rattle.plan_text.specs.Lines.{Line, linesOf, isSkipped, Plain, parts, letterIn, fieldsIn}
-use Rattle.plan_text.specs.Records.{sections, sectionOf, Field, number, resource, kind, row, stage, units, layoutOf, IsNumber}
+use Rattle.plan_text.specs.Lines.{Line, linesOf, isSkipped, Plain, columns, letterIn, fieldsIn}
+use Rattle.plan_text.specs.Records.{sections, sectionOf, Field, between, resource, kind, row, stage, units, layoutOf, IsNumeral}
 use Rattle.plan_text.specs.Records.{recordIn, numbersOf, keyOf, Has}
-use Rattle.plan_text.specs.Meaning.{C, R, T, S, B, K, Says, Sized}
+use Rattle.plan_text.specs.Meaning.{C, R, T, S, B, K, RecordsSay, Sized}
 use Rattle.plan_text.specs.declared.Record.{Record}
 use Rattle.plan_text.specs.declared.TextAnswer.{TextAnswer}
 use Rattle.plan_text.specs.declared.TextAnswer.the-variants.{Accepted, TooLong, BadLine, BadLetter, BadFields, OutOfRange, Repeated, Incomplete}
@@ -43,7 +43,7 @@ isAccepted a = eqb (textNumber a) 0
 abbrev pub shownIn : List ℕ → Reading → List ℕ
 shownIn text a = take (a .to - a .from) (drop (a .from) text)
 
--- the reading has this number and this line, and shows this part of the text, which begins at this place; an empty part begins at 0
+-- the reading has this number and this line, and shows this part of the text, which begins at this offset; an empty part begins at 0
 pub record TextSays (text : List ℕ) (n i start : ℕ) (part : List ℕ) (a : Reading) : Type 0 where
   pub number : textNumber (a .answer) ≡ n
   pub line : a .line ≡ i
@@ -52,7 +52,7 @@ pub record TextSays (text : List ℕ) (n i start : ℕ) (part : List ℕ) (a : R
   pub shown : shownIn text a ≡ part
 
 -- a refusal yields the empty plan
-pub record Refuses (text : List ℕ) (n i start : ℕ) (part : List ℕ) (a : Reading) : Type 0 where
+pub record RefusesText (text : List ℕ) (n i start : ℕ) (part : List ℕ) (a : Reading) : Type 0 where
   pub says : TextSays text n i start part a
   pub plan : a .plan ≡ emptyPlan
 
@@ -86,8 +86,8 @@ Follows last section = InRange section sections × (last ≤ section) × ((1 ≤
 -- 4: the right count of fields, each 1 to 5 digits
 abbrev pub WellFielded : Line → Type 0
 WellFielded l =
-    let ps = parts (l .bytes) in
-    (length (fieldsIn ps) ≡ length (layoutOf (sectionOf (letterIn ps)))) × Each IsNumber (fieldsIn ps)
+    let ps = columns (l .bytes) in
+    (length (fieldsIn ps) ≡ length (layoutOf (sectionOf (letterIn ps)))) × Each IsNumeral (fieldsIn ps)
 
 -- the numbers that a resource, a type and a row of the plan have, by its C, those of a type's stages, by its T, and the units that can
 -- be demanded of a resource, by its R. A type without its T has no stage yet, and a resource without its R capacity 0
@@ -108,7 +108,7 @@ IsUnitsOf rs r v = (n : ℕ) × Has rs (R r n) × InRange v n
 
 -- 5: the numbers are in the ranges of the fields, after the records rs; the range of a field may go by the number before it
 abbrev pub InField : List Record → ℕ → Field → ℕ → Type 0
-InField rs before (number low high) x = (low ≤ x) × (x ≤ high)
+InField rs before (between low high) x = (low ≤ x) × (x ≤ high)
 InField rs before resource x = IsResource rs x
 InField rs before kind x = IsType rs x
 InField rs before row x = IsRow rs x
@@ -135,13 +135,13 @@ stagesIn (r ∷ rs) = cond (eqb (r .section) 3) (r .second) 0 + stagesIn rs
 abbrev pub WithinTotal : List Record → Record → Type 0
 WithinTotal rs r = stagesIn (r ∷ rs) ≤ maxAllStages
 
--- the questions of line n, which begins at this place, after the records rs
+-- the questions of line n, which begins at this offset, after the records rs
 abbrev pub lineConditions : List ℕ → List Record → ℕ → ℕ → Line → List (Condition Reading)
 lineConditions text rs n from l =
     let r = recordIn (l .bytes) in
-    let refuses : ℕ → Reading → Type 0 = λ number. Refuses text number n from (l .bytes) in
+    let refuses : ℕ → Reading → Type 0 = λ number. RefusesText text number n from (l .bytes) in
     asks (WellFormed l) (refuses 2)
-    ∷ asks (IsRecord l → Follows (lastSection rs) (sectionOf (letterIn (parts (l .bytes))))) (refuses 3)
+    ∷ asks (IsRecord l → Follows (lastSection rs) (sectionOf (letterIn (columns (l .bytes))))) (refuses 3)
     ∷ asks (IsRecord l → WellFielded l) (refuses 4)
     ∷ asks (IsRecord l → InRanges rs r) (refuses 5)
     ∷ asks (IsRecord l → FirstWithKey rs r) (refuses 6)
@@ -169,16 +169,16 @@ pub record Complete (rs : List Record) : Type 0 where
 
 -- asked after the last of the lines
 abbrev pub lastConditions : List ℕ → List Line → List (Condition Reading)
-lastConditions text lines = asks (Complete (recordsOf lines)) (Refuses text 7 (length lines + 1) 0 []) ∷ []
+lastConditions text lines = asks (Complete (recordsOf lines)) (RefusesText text 7 (length lines + 1) 0 []) ∷ []
 
 -- the questions of a text: 1, those of its lines, and 7
 abbrev pub textConditions : List ℕ → List (Condition Reading)
 textConditions text =
-    asks (length text ≤ maxText) (Refuses text 1 0 0 []) ∷ (linesConditions text [] (linesOf text) ++ lastConditions text (linesOf text))
+    asks (length text ≤ maxText) (RefusesText text 1 0 0 []) ∷ (linesConditions text [] (linesOf text) ++ lastConditions text (linesOf text))
 
 -- an accepted text: its plan is sound and is what its records say, with as many entries as a plan has
 pub record Accepts (text : List ℕ) (a : Reading) : Type 0 where
   pub says : TextSays text 0 0 0 [] a
-  pub plan : Says (recordsOf (linesOf text)) (a .plan)
+  pub plan : RecordsSay (recordsOf (linesOf text)) (a .plan)
   pub sound : Sound (a .plan)
   pub sized : Sized (a .plan)

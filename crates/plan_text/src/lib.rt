@@ -3,9 +3,9 @@
 use model::Plan;
 use plan_bytes::Frame;
 
-// Where the line that begins at a place of a text ends, where the next begins, whether it has its LF, and whether the text was at
+// Where the line that begins at an offset of a text ends, where the next begins, whether it has its LF, and whether the text was at
 // its end, so that there is none.
-pub struct LinePlace {
+pub struct LineSpan {
     pub end: usize,
     pub next: usize,
     pub ended: bool,
@@ -59,7 +59,7 @@ pub struct Head {
     pub section: u32,
 }
 
-// The answer with the line that decides it, counted from 1, that line's place in the text, from its first byte up to but not
+// The answer with the line that decides it, counted from 1, where that line stands in the text, from its first byte up to but not
 // including its LF, and the plan; the empty plan where the text is refused. It is the meaning, and no code makes one.
 pub struct Reading {
     pub answer: TextAnswer,

@@ -1,4 +1,4 @@
--- What a stage that is lent demands and weighs, by the place of the byte.
+-- What a stage that is lent demands and weighs, by the offset of the byte.
 use Prim.Native.Nat.{ℕ, _+_, _-_, _*_, _<_}
 use native.Mathlib.Omega.{arith}
 use mathlib.Core.List.{List}

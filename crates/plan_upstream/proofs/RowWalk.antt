@@ -17,7 +17,7 @@ use Rattle.model.proofs.Soundness.{decides-stages}
 use Rattle.model.proofs.Upstream.{decides-ranked-up-to, decides-upstream}
 use Rattle.plan_upstream_stage.specs.Due.{noRank, dueBy}
 use Rattle.plan_upstream_stage.proofs.Ranked.{lowest-ranked}
-use Rattle.plan_upstream.specs.Parts.{stretchRank}
+use Rattle.plan_upstream.specs.CheckInternals.{stretchRank}
 
 -- two tests that decide the same are the same
 same-test : {P : Type 0} {a b : Bool} → Decides P a → Decides P b → a ≡ b

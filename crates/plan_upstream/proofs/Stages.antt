@@ -18,7 +18,7 @@ use Rattle.model.proofs.Decide.{Decides, holding, failing, holds, passes, decid
 use Rattle.model.proofs.Flat.{flatIndex, flat-before, stage-at, index-of-stage, index-within}
 use Rattle.model.proofs.Search.{all-fails, lowest-at}
 use Rattle.model.proofs.Sums.{sum-zero}
-use Rattle.plan_upstream.specs.Parts.{Stands, unitEntry, FirstOther}
+use Rattle.plan_upstream.specs.CheckInternals.{Stands, unitEntry, FirstOther}
 use Rattle.plan_upstream.specs.declared.position.Position.{Position}
 
 decides-test : (b : Bool) → Decides (b ≡ true) b

@@ -18,7 +18,7 @@ use Rattle.model.specs.declared.Plan.{Plan}
 use Rattle.model.proofs.Decide.{decided, decides-le, decides-eq}
 use Rattle.model.proofs.Flat.{flatIndex, flat-unique, stage-at, index-of-stage}
 use Rattle.plan_upstream_stage.specs.Due.{noRank}
-use Rattle.plan_upstream.specs.Parts.{LowestRanks, Closed, StretchRanks}
+use Rattle.plan_upstream.specs.CheckInternals.{LowestRanks, Closed, StretchRanks}
 
 set-elsewhere : (xs : List ℕ) (j v i : ℕ) → (¬ (i ≡ suc j)) → at (set xs j v) i ≡ at xs i
 set-elsewhere xs j v zero ne = refl

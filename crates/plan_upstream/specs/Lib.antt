@@ -1,2 +1,2 @@
 -- What the parts of the check compute.
-pub mod Parts
+pub mod CheckInternals

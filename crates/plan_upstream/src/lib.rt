@@ -7,7 +7,7 @@ ghost use Rattle.model.specs.Soundness.{Sound};
 ghost use Rattle.model.specs.Upstream.{checkQuestions, check};
 ghost use Rattle.model.specs.declared.Check.the-variants.{Meets};
 ghost use Rattle.plan_bytes.specs.Over.{planOver};
-ghost use Rattle.plan_upstream.specs.Parts.{LowestRanks};
+ghost use Rattle.plan_upstream.specs.CheckInternals.{LowestRanks};
 use crate::position::position_of;
 use crate::position::u8_to_usize;
 use crate::ranks::closed;

@@ -1,7 +1,7 @@
 // Where an entry of the array of stages belongs.
 ghost use mathlib.Core.Path.{_≡_};
 ghost use Prim.Native.Nat.{_≤_};
-ghost use Rattle.plan_upstream.specs.Parts.{Stands};
+ghost use Rattle.plan_upstream.specs.CheckInternals.{Stands};
 
 pub(crate) fn u8_to_usize(x: u8) -> usize
     ensures { λ r. ⌜ (r ≡ x) × (r ≤ 255) ⌝ }

@@ -1,5 +1,5 @@
 // The least rank of a resource whose stretch goes on past each stage.
-ghost use Rattle.plan_upstream.specs.Parts.{Types, Closed};
+ghost use Rattle.plan_upstream.specs.CheckInternals.{Types, Closed};
 use crate::position::u8_to_usize;
 
 // The lowest rank that each stage demands, but at a type's last stage a number above every rank: no stretch goes on from there.

@@ -6,7 +6,7 @@ ghost use Rattle.model.specs.Plan.{allStages};
 ghost use Rattle.model.specs.Soundness.{Sound};
 ghost use Rattle.model.specs.Upstream.{faultyRow};
 ghost use Rattle.plan_bytes.specs.Over.{planOver};
-ghost use Rattle.plan_upstream.specs.Parts.{StretchRanks};
+ghost use Rattle.plan_upstream.specs.CheckInternals.{StretchRanks};
 use crate::position::u8_to_usize;
 use plan_bytes::Frame;
 use plan_upstream_stage::due_weight;

@@ -1,7 +1,7 @@
 // Does every stage demand exactly one unit of one resource, and of what rank?
 ghost use Rattle.model.specs.Soundness.{Sound};
 ghost use Rattle.plan_bytes.specs.Over.{planOver};
-ghost use Rattle.plan_upstream.specs.Parts.{FirstOther, LowestRanks};
+ghost use Rattle.plan_upstream.specs.CheckInternals.{FirstOther, LowestRanks};
 use plan_bytes::Frame;
 use plan_upstream_stage::lowest_rank;
 use plan_upstream_stage::one_unit;

@@ -12,7 +12,7 @@ use Rattle.model.specs.Limits.{maxResources, maxRows}
 use Rattle.model.specs.declared.Stage.{Stage}
 use Rattle.plan_bytes.specs.Over.{stageIn, stageSize}
 use Rattle.plan_bytes.proofs.Laid.{stage-back}
-use Rattle.plan_text.specs.Written.{put, withDemand, withWeight, stageAfter}
+use Rattle.plan_text.specs.Draft.{put, withDemand, withWeight, stageAfterRecord}
 use Rattle.plan_text.specs.declared.Record.{Record}
 use Rattle.read_apply.specs.StageBytes.{bytesAfter}
 
@@ -27,7 +27,7 @@ module _ (s : Stage) (r : Record) where
 
 module _ (bytes : List ℕ) (r : Record) (whole : length bytes ≡ stageSize) where
   abbrev after : Stage
-  after = stageAfter (stageIn bytes) r
+  after = stageAfterRecord (stageIn bytes) r
 
   weights : take maxRows (drop maxResources bytes) ≡ drop maxResources bytes
   weights = take-all maxRows (drop maxResources bytes) (omega (arith, length-drop maxResources bytes))

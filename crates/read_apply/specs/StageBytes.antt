@@ -5,9 +5,9 @@ use mathlib.Core.List.{List}
 use lib.Dec.{eqb}
 use lib.ListN.{length}
 use Rattle.plan_bytes.specs.Over.{stageIn, stageSize, stageBytes}
-use Rattle.plan_text.specs.Written.{stageAfter}
+use Rattle.plan_text.specs.Draft.{stageAfterRecord}
 use Rattle.plan_text.specs.declared.Record.{Record}
 
 abbrev pub bytesAfter : List ℕ → Record → List ℕ
 bytesAfter bytes r =
-    cond (eqb (length bytes) stageSize) (stageBytes (stageAfter (stageIn bytes) r)) bytes
+    cond (eqb (length bytes) stageSize) (stageBytes (stageAfterRecord (stageIn bytes) r)) bytes

@@ -1,8 +1,8 @@
 // What a record writes into a plan: one entry of a list, or of a stage, or the counts. Any record may be handed in.
 ghost use mathlib.Core.Path.{_≡_};
 ghost use Prim.Native.Nat.{_%_};
-ghost use Rattle.plan_text.specs.Written.{entriesAfter, boundedAfter};
-ghost use Rattle.plan_text.specs.ReaderParts.{narrowed, countsAfter, headAfter};
+ghost use Rattle.plan_text.specs.Draft.{entriesAfter, boundedAfter};
+ghost use Rattle.plan_text.specs.ReaderInternals.{narrowed, countsAfter, headAfter};
 ghost use Rattle.read_apply.specs.StageBytes.{bytesAfter};
 use plan_entry::put_bound;
 use plan_entry::put_entry;

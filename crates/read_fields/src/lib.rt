@@ -1,8 +1,8 @@
 // The fields of a line of text, and their numbers.
 ghost use mathlib.Core.Path.{_≡_};
-ghost use Rattle.plan_text.specs.Lines.{parts, fieldsIn};
+ghost use Rattle.plan_text.specs.Lines.{columns, fieldsIn};
 ghost use Rattle.plan_text.specs.Records.{fieldsRead};
-ghost use Rattle.plan_text.specs.ReaderParts.{numberRead};
+ghost use Rattle.plan_text.specs.ReaderInternals.{valueRead};
 use bytes::scan::find;
 use plan_text::Fields;
 
@@ -11,7 +11,7 @@ const NO_NUMBER: u32 = 100000;
 
 // The number that 1 to 5 digits say.
 pub fn number(digits: &[u8]) -> u32
-    ensures { λ r. ⌜ r ≡ numberRead (now (digits .entry)) ⌝ }
+    ensures { λ r. ⌜ r ≡ valueRead (now (digits .entry)) ⌝ }
 {
     if digits.len() < 1 {
         return NO_NUMBER;
@@ -37,7 +37,7 @@ pub fn number(digits: &[u8]) -> u32
 
 // The fields go from tab to tab: `at` is the tab before the next one, and the length where no other is left.
 pub fn fields_of(line: &[u8]) -> Fields
-    ensures { λ r. ⌜ r ≡ fieldsRead (fieldsIn (parts (now (line .entry)))) ⌝ }
+    ensures { λ r. ⌜ r ≡ fieldsRead (fieldsIn (columns (now (line .entry)))) ⌝ }
 {
     let mut numbers = [0u32; 4];
     let mut count = 0;

@@ -6,10 +6,10 @@ use mathlib.Core.Path.{_≡_, refl}
 use lib.ListN.{length}
 use borrow.Author.Tests.{eq-eqb, ne-eqb}
 use Rattle.model.specs.Numbers.{each}
-use Rattle.plan_text.specs.Lines.{isPlain, isSkipped, parts, fieldsIn}
+use Rattle.plan_text.specs.Lines.{isPlain, isSkipped, columns, fieldsIn}
 use Rattle.plan_text.specs.Records.{layoutOf, fieldsRead, noRecord, recordWith, recordIn}
 use Rattle.plan_text.specs.Reading.{follows}
-use Rattle.plan_text.specs.ReaderParts.{formOf}
+use Rattle.plan_text.specs.ReaderInternals.{formOf}
 use Rattle.plan_text.specs.declared.Fields.{Fields}
 use Rattle.plan_text.specs.declared.Form.{Form}
 use Rattle.plan_text.specs.declared.TextAnswer.{TextAnswer}
@@ -20,7 +20,7 @@ abbrev pub without : TextAnswer → Form
 without a = record { answer = a; read = noRecord }
 
 abbrev pub fieldsOfLine : List ℕ → Fields
-fieldsOfLine bytes = fieldsRead (fieldsIn (parts bytes))
+fieldsOfLine bytes = fieldsRead (fieldsIn (columns bytes))
 
 module _ (last : ℕ) (bytes : List ℕ) (ended : Bool) where
   abbrev form : Form

@@ -3,10 +3,10 @@ ghost use mathlib.Core.Path.{_≡_};
 ghost use mathlib.Core.Bool.{_&&_};
 ghost use lib.ListN.{length};
 ghost use Rattle.model.specs.Numbers.{each};
-ghost use Rattle.plan_text.specs.Lines.{isPlain, parts, letterIn, fieldsIn};
+ghost use Rattle.plan_text.specs.Lines.{isPlain, columns, letterIn, fieldsIn};
 ghost use Rattle.plan_text.specs.Records.{letters, position, sectionOf, layoutOf, fieldsRead, noRecord, recordWith};
 ghost use Rattle.plan_text.specs.Reading.{follows};
-ghost use Rattle.plan_text.specs.ReaderParts.{formOf};
+ghost use Rattle.plan_text.specs.ReaderInternals.{formOf};
 use plan_text::Fields;
 use plan_text::Form;
 use plan_text::Record;
@@ -61,7 +61,7 @@ fn section_of_letter(letter: u8) -> u32
 }
 
 fn section_of(line: &[u8]) -> u32
-    ensures { λ r. ⌜ r ≡ sectionOf (letterIn (parts (now (line .entry)))) ⌝ }
+    ensures { λ r. ⌜ r ≡ sectionOf (letterIn (columns (now (line .entry)))) ⌝ }
 {
     section_of_letter(letter_of(line))
 }

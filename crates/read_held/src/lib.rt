@@ -5,9 +5,9 @@ ghost use Prim.Native.Nat.{ℕ};
 ghost use lib.Dec.{leb};
 ghost use Rattle.model.specs.Numbers.{at, allTo};
 ghost use Rattle.plan_bytes.specs.Over.{stageIn};
-ghost use Rattle.plan_text.specs.Written.{indexIn, heldBy};
+ghost use Rattle.plan_text.specs.Draft.{indexNamed, heldBy};
 ghost use Rattle.plan_text.specs.Reading.{withinTotal};
-ghost use Rattle.plan_text.specs.ReaderParts.{recordAnswer, knownWith};
+ghost use Rattle.plan_text.specs.ReaderInternals.{recordAnswer, knownWith};
 use plan_entry::entry_of;
 use plan_stages::stage_index;
 use plan_text::Head;
@@ -16,8 +16,8 @@ use plan_text::TextAnswer;
 use read_ranges::in_ranges;
 
 // Where the stage of an S or an A stands among all stages; 0 for another record.
-pub fn place_of(rec: Record, lengths: &[u8; 16]) -> usize
-    ensures { λ r. ⌜ r ≡ indexIn (now (lengths .entry)) rec ⌝ }
+pub fn index_named(rec: Record, lengths: &[u8; 16]) -> usize
+    ensures { λ r. ⌜ r ≡ indexNamed (now (lengths .entry)) rec ⌝ }
 {
     let section = rec.section;
     match section {

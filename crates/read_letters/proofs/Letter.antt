@@ -7,7 +7,7 @@ use mathlib.Core.Path.{_≡_, refl}
 use lib.Dec.{eqb}
 use lib.ListN.{length, getD}
 use borrow.Author.Tests.{eq-eqb, ne-eqb}
-use Rattle.plan_text.specs.Lines.{tab, hash, isSkipped, parts, letterIn, letterByte}
+use Rattle.plan_text.specs.Lines.{tab, hash, isSkipped, columns, letterIn, letterByte}
 use Rattle.plan_text.proofs.Split.{split-first}
 
 pub skipped-empty : (line : List ℕ) → length line < 1 → true ≡ isSkipped line
@@ -19,7 +19,7 @@ skipped-first [] h = absurd (omega arith)
 skipped-first (b ∷ bs) h = refl
 
 abbrev pub byteIn : List ℕ → ℕ
-byteIn line = letterByte (letterIn (parts line))
+byteIn line = letterByte (letterIn (columns line))
 
 pub no-byte : (line : List ℕ) → length line < 1 → 0 ≡ byteIn line
 no-byte [] h = refl

@@ -1,14 +1,14 @@
-// The lines of a text, found in this one place: where the line that begins at a place ends, and a part of a text.
+// The lines of a text, found in this one place: where the line that begins at an offset ends, and a part of a text.
 ghost use mathlib.Core.Path.{_≡_};
 ghost use Prim.Native.Nat.{min};
-ghost use Rattle.plan_text.specs.LineReading.{placeFrom};
+ghost use Rattle.plan_text.specs.LineReading.{spanFrom};
 ghost use Rattle.plan_text.specs.TextParts.{IsPart};
 use bytes::scan::find;
-use plan_text::LinePlace;
+use plan_text::LineSpan;
 
-// Where the line ends that begins at a place: at its LF or, without one, at the end of the text.
+// Where the line ends that begins at an offset: at its LF or, without one, at the end of the text.
 pub fn line_end(text: &[u8], at: usize) -> usize
-    ensures { λ r. ⌜ r ≡ placeFrom (now (text .entry)) at .end ⌝ }
+    ensures { λ r. ⌜ r ≡ spanFrom (now (text .entry)) at .end ⌝ }
 {
     if text.len() <= at {
         return at;
@@ -17,13 +17,13 @@ pub fn line_end(text: &[u8], at: usize) -> usize
 }
 
 // All that is to be known of that line.
-pub fn line_at(text: &[u8], at: usize) -> LinePlace
-    ensures { λ r. ⌜ r ≡ placeFrom (now (text .entry)) at ⌝ }
+pub fn line_at(text: &[u8], at: usize) -> LineSpan
+    ensures { λ r. ⌜ r ≡ spanFrom (now (text .entry)) at ⌝ }
 {
     let end = line_end(text, at);
     let ended = end < text.len();
     let next = if ended { end + 1 } else { end };
-    LinePlace {
+    LineSpan {
         end,
         next,
         ended,
@@ -37,7 +37,7 @@ fn at_most(n: usize, limit: usize) -> usize
     if limit < n { limit } else { n }
 }
 
-// A part of the text, from one place up to another; what lies beyond the text is left out.
+// A part of the text, from one offset up to another; what lies beyond the text is left out.
 pub fn part_of(text: &[u8], from: usize, to: usize) -> &[u8]
     ensures { λ r. ⌜ IsPart (text .entry) from to r ⌝ }
 {

@@ -15,22 +15,22 @@ use Rattle.model.specs.Plan.{emptyPlan}
 use Rattle.model.proofs.Lists.{replicated}
 use Rattle.plan_text.specs.Lines.{Line, lineEnd, linesOf}
 use Rattle.plan_text.specs.Records.{Known, knownOf, recordIn, inRanges}
-use Rattle.plan_text.specs.Written.{Draft, emptyDraft, written, heldIn}
+use Rattle.plan_text.specs.Draft.{Draft, emptyDraft, draftAfter, heldIn}
 use Rattle.plan_text.specs.Reading.{refused, withinTotal, readFrom}
 use Rattle.plan_text.specs.TextQuestions.{isAccepted}
-use Rattle.plan_text.specs.ReaderParts.{formAnswer, recordAnswer}
+use Rattle.plan_text.specs.ReaderInternals.{formAnswer, recordAnswer}
 use Rattle.plan_text.specs.declared.Record.{Record}
 use Rattle.plan_text.specs.declared.TextAnswer.{TextAnswer}
 use Rattle.plan_text.specs.declared.TextAnswer.the-variants.{Accepted, OutOfRange, Repeated}
 use Rattle.plan_text.proofs.RecordLists.{entries-length}
 use Rattle.plan_text.proofs.LineByLine.{end-within, line-length, line-here, no-line}
-use Rattle.plan_text.proofs.ReaderSteps.{true-or-false, Few, few-after, small-after, form-refused, record-refused, line-read}
+use Rattle.plan_text.proofs.ReaderSteps.{true-or-false, FewStages, few-after, small-after, form-refused, record-refused, line-read}
 
-pub record Going (text : List ℕ) (d : Draft) (line from : ℕ) : Type 0 where
+pub record ReadingOn (text : List ℕ) (d : Draft) (line from : ℕ) : Type 0 where
   pub left : readFrom 0 0 emptyDraft (linesOf text) ≡ readFrom line from d (linesOf (drop from text))
   pub counted : line ≤ from
   pub within : from ≤ length text + 1
-  pub few : Few (d .plan .lengths)
+  pub few : FewStages (d .plan .lengths)
   pub small : (i : ℕ) → at (d .plan .capacity) i ≤ 255
   pub types : length (d .plan .lengths) ≡ maxTypes
   pub stages : length (d .plan .stages) ≡ maxAllStages
@@ -52,16 +52,16 @@ module _ (k : Known) (lengths : List ℕ) (r : Record) where
       go true false c e = absurd (false≢true e)
       go false b c e = absurd (false≢true e)
 
-pub going-start : (text : List ℕ) → Going text emptyDraft 0 0
+pub reading-start : (text : List ℕ) → ReadingOn text emptyDraft 0 0
 unfolding emptyDraft emptyPlan
-going-start text =
+reading-start text =
     record { left = refl; counted = omega arith; within = omega arith; few = omega arith; small = none; types = refl; stages = refl }
   where
     none : (i : ℕ) → at (replicate maxResources 0) i ≤ 255
     none zero = omega arith
     none (suc i) = omega (arith, replicated {A = ℕ} maxResources i 0)
 
-module _ (text : List ℕ) (d : Draft) (line from : ℕ) (going : Going text d line from) where
+module _ (text : List ℕ) (d : Draft) (line from : ℕ) (going : ReadingOn text d line from) where
   -- after the last line
   pub read-out : length text ≤ from → readFrom line from d [] ≡ readFrom 0 0 emptyDraft (linesOf text)
   read-out h = sym (going .left ∙ ap (readFrom line from d) (no-line text from h))
@@ -93,14 +93,14 @@ module _ (text : List ℕ) (d : Draft) (line from : ℕ) (going : Going text d l
       record-refuses e =
           sym (here ∙ record-refused line from d lineAt (linesOf (drop (end + 1) text)) formed e ∙ ap (refused answerAt (line + 1) from) ends)
 
-      pub goes-on : isAccepted answerAt ≡ true → (next : Draft) → next ≡ written d recordAt → Going text next (line + 1) (end + 1)
-      unfolding written
+      pub goes-on : isAccepted answerAt ≡ true → (next : Draft) → next ≡ draftAfter d recordAt → ReadingOn text next (line + 1) (end + 1)
+      unfolding draftAfter
       goes-on e next made =
           let met = record-met (knownOf (d .plan)) (d .plan .lengths) recordAt (heldIn d recordAt) e in
-          let on : Going text (written d recordAt) (line + 1) (end + 1) =
+          let on : ReadingOn text (draftAfter d recordAt) (line + 1) (end + 1) =
           record {
             left = here ∙ line-read line from d lineAt (linesOf (drop (end + 1) text)) formed e
-                ∙ ap (λ i. readFrom (line + 1) (i + 1) (written d recordAt) (linesOf (drop (end + 1) text))) ends;
+                ∙ ap (λ i. readFrom (line + 1) (i + 1) (draftAfter d recordAt) (linesOf (drop (end + 1) text))) ends;
             counted = omega (arith, going .counted, end-within text from end found there);
             within = omega (arith, end-within text from end found there);
             few = few-after (knownOf (d .plan)) recordAt (met .0) (going .few) (met .1);
@@ -108,4 +108,4 @@ module _ (text : List ℕ) (d : Draft) (line from : ℕ) (going : Going text d l
             types = entries-length 3 (d .plan .lengths) recordAt ∙ going .types;
             stages = length-set (d .plan .stages) _ _ ∙ going .stages;
           } in
-          subst (λ x. Going text x (line + 1) (end + 1)) (sym made) on
+          subst (λ x. ReadingOn text x (line + 1) (end + 1)) (sym made) on

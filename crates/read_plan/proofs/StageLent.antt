@@ -11,8 +11,8 @@ use Rattle.model.specs.declared.Stage.{Stage}
 use Rattle.plan_bytes.specs.Over.{entriesIn, stageIn, stageSize, stagesSize, planRead, planOver}
 use Rattle.plan_bytes.proofs.Over.{over-whole}
 use Rattle.plan_bytes.proofs.Stored.{stored, stored-length, stage-bytes, stage-stored, empty-stages}
-use Rattle.plan_text.specs.Written.{Draft, emptyDraft, stageAfter}
-use Rattle.plan_text.specs.ReaderParts.{planWith, draftWith}
+use Rattle.plan_text.specs.Draft.{Draft, emptyDraft, stageAfterRecord}
+use Rattle.plan_text.specs.ReaderInternals.{planWith, draftWith}
 use Rattle.plan_text.specs.declared.Counts.{Counts}
 use Rattle.plan_text.specs.declared.Head.{Head}
 use Rattle.plan_text.specs.declared.Record.{Record}
@@ -65,10 +65,10 @@ module _ (bytes : List ℕ) (from : ℕ) where
       unfolding stagesLaid
       stored-here = rw here (stage-stored bytes i new (new-length room whole new r made) within whole)
 
-      pub stage-written : stagesLaid (stored from (from + 64 - from) new bytes) ≡ set (stagesLaid bytes) i (stageAfter (getD (stagesLaid bytes) i noStage) r)
+      pub stage-written : stagesLaid (stored from (from + 64 - from) new bytes) ≡ set (stagesLaid bytes) i (stageAfterRecord (getD (stagesLaid bytes) i noStage) r)
       stage-written =
           stored-here
-          ∙ ap (set (stagesLaid bytes) i) (ap stageIn made ∙ after-read lent r (lent-length room whole new r made) ∙ ap (λ s. stageAfter s r) stage-lent)
+          ∙ ap (set (stagesLaid bytes) i) (ap stageIn made ∙ after-read lent r (lent-length room whole new r made) ∙ ap (λ s. stageAfterRecord s r) stage-lent)
 
 -- the plan of the frame filled in
 pub plan-filled : (k : Counts) (capacity rank bound lengths bytes : List ℕ) → length bytes ≡ stagesSize

@@ -7,10 +7,10 @@ ghost use lib.Dec.{ltb};
 ghost use lib.ListN.{length, take, drop};
 ghost use Rattle.plan_bytes.specs.Over.{planOver};
 ghost use Rattle.plan_text.specs.Lines.{linesOf};
-ghost use Rattle.plan_text.specs.Written.{emptyDraft, indexIn};
+ghost use Rattle.plan_text.specs.Draft.{emptyDraft, indexNamed};
 ghost use Rattle.plan_text.specs.Reading.{refused, isComplete, readFrom, reading};
 ghost use Rattle.plan_text.specs.Framed.{readingFrom};
-ghost use Rattle.plan_text.specs.ReaderParts.{formOf};
+ghost use Rattle.plan_text.specs.ReaderInternals.{formOf};
 use plan_bytes::Frame;
 use plan_empty::empty_frame;
 use plan_soundness::is_sound;
@@ -26,7 +26,7 @@ use read_apply::write_entries;
 use read_apply::write_stage;
 use read_form::form_of;
 use read_held::all_bounded;
-use read_held::place_of;
+use read_held::index_named;
 use read_held::record_answer;
 use read_lines::line_end;
 
@@ -69,10 +69,10 @@ fn finished(frame: Frame, stages: [u8; 8192], bounded: &[u8; 32], line: u32) -> 
 
 // Where the bytes of the record's stage begin; 0 where that is beyond the stages, which its ranges then refuse.
 fn stage_offset(rec: Record, lengths: &[u8; 16]) -> usize
-    ensures { λ r. ⌜ (r + 64 ≤ 8192) × (indexIn (now (lengths .entry)) rec < 128 → r ≡ indexIn (now (lengths .entry)) rec * 64) ⌝ }
+    ensures { λ r. ⌜ (r + 64 ≤ 8192) × (indexNamed (now (lengths .entry)) rec < 128 → r ≡ indexNamed (now (lengths .entry)) rec * 64) ⌝ }
 {
-    let place = place_of(rec, lengths);
-    if place < 128 { place * 64 } else { 0 }
+    let index = index_named(rec, lengths);
+    if index < 128 { index * 64 } else { 0 }
 }
 
 // Questions 2 to 4 of the line that ends at `end`, where its LF stands or the text ends.
@@ -157,7 +157,7 @@ fn read_lines(text: &[u8]) -> FramedReading
     finished(frame, stages, &bounded, line)
 }
 
-// A plan text read: the answer with the line that decides it and that line's place in the text, and the plan.
+// A plan text read: the answer with the line that decides it and where that line stands in the text, and the plan.
 pub fn read(text: &[u8]) -> FramedReading
     ensures { λ r. ⌜ readingFrom r ≡ reading (now (text .entry)) ⌝ }
 {

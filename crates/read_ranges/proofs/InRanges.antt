@@ -11,7 +11,7 @@ use lib.ListN.{length, drop, getD, drop-of-length-le}
 use lib.Seq.{drop-cons}
 use Rattle.model.specs.Numbers.{at}
 use Rattle.plan_entry.proofs.Outside.{Unmatched, unmatched}
-use Rattle.plan_text.specs.Records.{Field, number, resource, kind, row, stage, units, Known, lowestIn, highestIn, fitsFields}
+use Rattle.plan_text.specs.Records.{Field, between, resource, kind, row, stage, units, Known, lowestIn, highestIn, fitsFields}
 use Rattle.read_ranges.specs.Table.{codeOf, fixedIn, fieldAt, numberIn, highestBy}
 
 -- the three numbers of a field
@@ -31,7 +31,7 @@ numbers-at fs (suc (suc (suc (suc i)))) h = absurd (omega arith)
 module _ (k : Known) (before : ℕ) where
   pub highest-right : (f : Field) → highestBy k before (codeOf f) (fixedIn f) ≡ highestIn k before f
   unfolding highestBy
-  highest-right (number low high) = refl
+  highest-right (between low high) = refl
   highest-right resource = refl
   highest-right kind = refl
   highest-right row = refl
@@ -48,7 +48,7 @@ module _ (k : Known) (before : ℕ) where
 module _ (k : Known) (before i : ℕ) (fs : List Field) (xs : List ℕ) where
   pub fits-here : i < length fs → i < length xs → let x = getD xs i 0 in let f = fieldAt fs i in
       fitsFields k before (drop i fs) (drop i xs) ≡ (leb (lowestIn f) x && leb x (highestIn k before f) && fitsFields k x (drop (i + 1) fs) (drop (i + 1) xs))
-  fits-here h l = rw (add-one, drop-cons fs i (number 0 0), drop-cons xs i 0) refl
+  fits-here h l = rw (add-one, drop-cons fs i (between 0 0), drop-cons xs i 0) refl
 
   pub fits-end : length fs ≤ i → fitsFields k before (drop i fs) (drop i xs) ≡ true
   fits-end h = rw (drop-of-length-le fs {i = i}) refl

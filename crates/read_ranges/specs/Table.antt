@@ -3,11 +3,11 @@ use Prim.Native.Nat.{ℕ}
 use mathlib.Core.List.{List, [], _∷_, _++_}
 use lib.ListN.{length, getD}
 use Rattle.model.specs.Numbers.{entry, at}
-use Rattle.plan_text.specs.Records.{Known, Field, number, resource, kind, row, stage, units, lowestIn}
+use Rattle.plan_text.specs.Records.{Known, Field, between, resource, kind, row, stage, units, lowestIn}
 
 -- what a field is
 abbrev pub codeOf : Field → ℕ
-codeOf (number low high) = 0
+codeOf (between low high) = 0
 codeOf resource = 1
 codeOf kind = 2
 codeOf row = 3
@@ -16,7 +16,7 @@ codeOf units = 5
 
 -- its fixed highest number; 0 where the plan has it
 abbrev pub fixedIn : Field → ℕ
-fixedIn (number low high) = high
+fixedIn (between low high) = high
 fixedIn resource = 0
 fixedIn kind = 0
 fixedIn row = 0
@@ -28,7 +28,7 @@ numbersFor f = codeOf f ∷ lowestIn f ∷ fixedIn f ∷ []
 
 -- the field with this index; where there is none, one whose numbers are zeros
 abbrev pub fieldAt : List Field → ℕ → Field
-fieldAt fs i = getD fs i (number 0 0)
+fieldAt fs i = getD fs i (between 0 0)
 
 -- a section's row of the table: the count of its fields, and the numbers for four
 abbrev pub rowOf : List Field → List ℕ

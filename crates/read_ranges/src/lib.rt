@@ -2,7 +2,7 @@
 ghost use mathlib.Core.Path.{_≡_};
 ghost use lib.ListN.{length};
 ghost use Rattle.plan_text.specs.Records.{layoutOf, inRanges};
-ghost use Rattle.plan_text.specs.ReaderParts.{knownWith};
+ghost use Rattle.plan_text.specs.ReaderInternals.{knownWith};
 ghost use Rattle.read_ranges.specs.Table.{rowOf, highestBy};
 use plan_entry::entry_of;
 use plan_text::Counts;

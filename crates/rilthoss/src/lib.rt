@@ -3,8 +3,8 @@
 ghost use mathlib.Core.Path.{_≡_};
 ghost use Prim.Native.Nat.{_≤_};
 ghost use Rattle.moves_text.specs.Output.{output};
-ghost use Rattle.moves_text.specs.Space.{filled, lengthFilled};
-ghost use Rattle.cell_layout.specs.HostAnswers.{packed, readAnswer, readCell, shownAnswer, writeAnswer, writtenSpace, checkAnswer, eventAnswer, eventCell, drainAnswer, drainCell};
+ghost use Rattle.moves_text.specs.Buffer.{filled, lengthFilled};
+ghost use Rattle.cell_layout.specs.HostAnswers.{packed, readAnswer, readCell, shownAnswer, writeAnswer, writtenBuffer, checkAnswer, eventAnswer, eventCell, drainAnswer, drainCell};
 use cell_events::drain_at;
 use cell_events::event_at;
 use cell_events::pack;
@@ -93,16 +93,16 @@ pub extern "C" fn rilthoss_shown(text: &[u8]) -> u64
     from + 4294967296 * to
 }
 
-// The spelling of the plan, written into the space; the place is its length.
+// The canonical text of the plan, written into the buffer; the place is its length.
 #[no_mangle]
-pub extern "C" fn rilthoss_write_plan<'a>(cell: &'a [u8], space: &'a mut [u8]) -> u64
-    ensures { λ r. ⌜ (r ≡ writeAnswer (now (cell .entry)) (now (space .entry))) × (now (space .exit) ≡ writtenSpace (now (cell .entry)) (now (space .entry))) ⌝ }
+pub extern "C" fn rilthoss_write_plan<'a>(cell: &'a [u8], buffer: &'a mut [u8]) -> u64
+    ensures { λ r. ⌜ (r ≡ writeAnswer (now (cell .entry)) (now (buffer .entry))) × (now (buffer .exit) ≡ writtenBuffer (now (cell .entry)) (now (buffer .entry))) ⌝ }
 {
     if cell.len() < CELL {
         return 9;
     }
     let frame = frame_in(cell);
-    let written = write_plan(frame, &cell[STAGES..JOB_COUNT], space);
+    let written = write_plan(frame, &cell[STAGES..JOB_COUNT], buffer);
     let answer = written.answer;
     pack(write_number(answer), written.length as u32)
 }
@@ -125,9 +125,9 @@ pub extern "C" fn rilthoss_check(cell: &[u8]) -> u64
 
 // The whole run of `cellmoves`: the output then begins with what is printed, and the answer is its length; 0 where it does not fit.
 #[no_mangle]
-pub extern "C" fn rilthoss_run(input: &[u8], space: &mut [u8]) -> usize
-    ensures { λ r. ⌜ (r ≡ lengthFilled (output (now (input .entry))) (now (space .entry))) × (now (space .exit) ≡ filled (output (now (input .entry))) (now (space .entry))) ⌝ }
+pub extern "C" fn rilthoss_run(input: &[u8], buffer: &mut [u8]) -> usize
+    ensures { λ r. ⌜ (r ≡ lengthFilled (output (now (input .entry))) (now (buffer .entry))) × (now (buffer .exit) ≡ filled (output (now (input .entry))) (now (buffer .entry))) ⌝ }
 {
-    let printed = answer_input(input, space);
+    let printed = answer_input(input, buffer);
     printed
 }

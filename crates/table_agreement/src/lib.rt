@@ -8,7 +8,7 @@ ghost use Rattle.model.specs.Soundness.{zeroBeyond};
 ghost use Rattle.model.specs.Jobs.{numbers, distinct, fits};
 ghost use Rattle.events.specs.JobList.{jobsOf};
 ghost use Rattle.plan_bytes.specs.Over.{planOver};
-ghost use Rattle.internals.specs.Parts.{wellFormed, refusedWith, agreed};
+ghost use Rattle.internals.specs.Internals.{wellFormed, refusedWith, agreed};
 ghost use Rattle.internals.specs.JobNumbers.{jobsLaid, listOver};
 use events::Answer;
 use internals::Agreement;

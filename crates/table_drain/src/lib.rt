@@ -7,7 +7,7 @@ ghost use Rattle.model.specs.Soundness.{Sound};
 ghost use Rattle.model.specs.Jobs.{noJob};
 ghost use Rattle.events.specs.JobList.{Agrees};
 ghost use Rattle.events.specs.Drain.{drainFrom, listDrain};
-ghost use Rattle.internals.specs.Parts.{ceilingsOf, earliestPosition, movedAt};
+ghost use Rattle.internals.specs.Internals.{ceilingsOf, earliestPosition, movedAt};
 ghost use Rattle.plan_bytes.specs.Over.{planOver};
 ghost use Rattle.model.specs.declared.Plan.{Plan};
 use events::Answer;

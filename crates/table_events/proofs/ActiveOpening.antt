@@ -8,12 +8,12 @@ use Rattle.model.specs.declared.Plan.{Plan}
 use Rattle.events.specs.JobList.{jobsOf}
 use Rattle.events.specs.Events.{isAdmitted, listOutcome}
 use Rattle.events.specs.declared.JobList.{JobList}
-use Rattle.internals.specs.Parts.{sumsOf, ceilingsOf, positionOf, stageMet, refusal, agreedWith}
+use Rattle.internals.specs.Internals.{sumsOf, ceilingsOf, positionOf, stageMet, refusal, agreedWith}
 use Rattle.internals.specs.declared.Found.{Found}
 use Rattle.internals.specs.declared.StageAsked.{StageAsked}
 use Rattle.internals.proofs.FirstQuestions.{agreed-answer, agreed-met}
 use Rattle.internals.proofs.ActiveQuestions as questions
-use Rattle.internals.proofs.ActiveQuestions.{Stands, eventAsking, agreement-stands, job-staged}
+use Rattle.internals.proofs.ActiveQuestions.{StandsActive, eventAsking, agreement-stands, job-staged}
 use Rattle.table_events.specs.ActiveAsked.{ActiveAsked}
 use Rattle.table_events.specs.declared.Asked.{Asked}
 
@@ -28,7 +28,7 @@ module _ {p : Plan} {t : JobList} {n : ℕ} {wanted : StageAsked} {a : Asked} (a
   named = ap (λ (f : Found). f .job) (asked .found)
 
   module _ (met : isAdmitted (a .answer) ≡ true) where
-    pub stands : Stands p t n
+    pub stands : StandsActive p t n
     stands = questions.active-stands p t n wanted _ _ (agreed-answer p t) (asked .answer) met .0
 
     pub right-stage : stageMet p wanted (jobOf n (jobsOf t)) ≡ true

@@ -10,13 +10,13 @@ use Rattle.events.specs.Events.{isAdmitted, jobsAfter, answer, listOutcome}
 use Rattle.events.specs.declared.JobList.{JobList}
 use Rattle.events.specs.declared.Event.{Event}
 use Rattle.events.specs.declared.Answer.the-variants.{Admitted}
-use Rattle.internals.specs.Parts.{stageMet, withoutJob}
+use Rattle.internals.specs.Internals.{stageMet, withoutJob}
 use Rattle.internals.specs.JobNumbers.{applied, removalFrom}
 use Rattle.internals.specs.declared.Change.the-variants.{Nothing, Removed}
 use Rattle.internals.specs.declared.StageAsked.{StageAsked}
 use Rattle.internals.proofs.ListChanges.{removed-list}
 use Rattle.internals.proofs.QuestionParts.{is-admitted, admitted-outcome}
-use Rattle.internals.proofs.ActiveQuestions.{Stands, eventAsking, active}
+use Rattle.internals.proofs.ActiveQuestions.{StandsActive, eventAsking, active}
 use Rattle.table_events.specs.ActiveAsked.{ActiveAsked}
 use Rattle.table_events.specs.declared.Asked.{Asked}
 use Rattle.table_events.proofs.ActiveOpening.{opening-refused, position, stands, right-stage}
@@ -26,7 +26,7 @@ module _ {p : Plan} {t : JobList} {n : ℕ} (wanted : StageAsked) {a : Asked} (a
   event = eventAsking wanted n
 
   pub removal-outcome : jobsAfter p (jobsOf t) event ≡ removed n (jobsOf t)
-      → (Stands p t n → stageMet p wanted (jobOf n (jobsOf t)) ≡ true → answer p t event ≡ Admitted)
+      → (StandsActive p t n → stageMet p wanted (jobOf n (jobsOf t)) ≡ true → answer p t event ≡ Admitted)
       → applied t (removalFrom (a .answer) (a .found .at)) ≡ listOutcome p t event
   unfolding removalFrom
   removal-outcome leads goes = go (isAdmitted (a .answer)) refl

@@ -6,7 +6,7 @@ use Rattle.model.specs.Jobs.{jobOf}
 use Rattle.model.specs.declared.Plan.{Plan}
 use Rattle.events.specs.JobList.{jobsOf}
 use Rattle.events.specs.declared.JobList.{JobList}
-use Rattle.internals.specs.Parts.{positionOf, foundIn, stageMet, activeAnswer, agreed}
+use Rattle.internals.specs.Internals.{positionOf, foundIn, stageMet, activeAnswer, agreed}
 use Rattle.internals.specs.declared.StageAsked.{StageAsked}
 use Rattle.table_events.specs.declared.Asked.{Asked}
 

@@ -6,7 +6,7 @@ ghost use lib.ListN.{getD};
 ghost use Rattle.model.specs.Limits.{maxJobs};
 ghost use Rattle.model.specs.Jobs.{noJob};
 ghost use Rattle.events.specs.JobList.{jobsOf};
-ghost use Rattle.internals.specs.Parts.{foundIn, withJob, withReplaced, withoutJob};
+ghost use Rattle.internals.specs.Internals.{foundIn, withJob, withReplaced, withoutJob};
 ghost use Rattle.internals.specs.JobNumbers.{jobsLaid, listOver, applied};
 use events::JobList;
 use events::ListOutcome;

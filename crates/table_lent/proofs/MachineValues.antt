@@ -35,8 +35,8 @@ IsTable t = Is T.the-row t (table-val t ∷ [])
 abbrev pub IsFrame : Frame → Type 0
 IsFrame f = Is F.the-row f (frame-val f ∷ [])
 
-abbrev pub IsEvent : Event → Type 0
-IsEvent e = Is E.the-row e (event-val e ∷ [])
+abbrev pub IsMachineEvent : Event → Type 0
+IsMachineEvent e = Is E.the-row e (event-val e ∷ [])
 
 abbrev pub IsAnswer : Answer → Type 0
 IsAnswer a = Is N.the-row a (answer-val a ∷ [])

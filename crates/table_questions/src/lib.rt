@@ -2,7 +2,7 @@
 // job number ended.
 ghost use mathlib.Core.Path.{_≡_};
 ghost use Rattle.model.specs.Numbers.{inRange};
-ghost use Rattle.internals.specs.Parts.{stageMeets, activeAnswer, loadAnswer};
+ghost use Rattle.internals.specs.Internals.{stageMeets, activeAnswer, loadAnswer};
 use events::Answer;
 use internals::StageAsked;
 

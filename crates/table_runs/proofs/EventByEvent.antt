@@ -20,28 +20,28 @@ use Rattle.admission.specs.declared.Outcome.{Outcome}
 use Rattle.table_runs.specs.declared.Ran.{Ran}
 
 -- a run with so many events admitted before it
-abbrev pub after : ℕ → Ran → Ran
-after m r = record { table = r .table; admitted = m + r .admitted }
+abbrev pub afterEvents : ℕ → Ran → Ran
+afterEvents m r = record { table = r .table; admitted = m + r .admitted }
 
 same-admitted : (r : Ran) (m : ℕ) → r .admitted ≡ m → r ≡ record { table = r .table; admitted = m }
 same-admitted r m e = λ i. record { table = r .table; admitted = e i }
 
-pub after-none : (r : Ran) → r ≡ after 0 r
-after-none r = same-admitted r (0 + r .admitted) (omega arith)
+pub after-no-event : (r : Ran) → r ≡ afterEvents 0 r
+after-no-event r = same-admitted r (0 + r .admitted) (omega arith)
 
-pub after-after : (m n : ℕ) (r : Ran) → after m (after n r) ≡ after (m + n) r
-after-after m n r = same-admitted (after m (after n r)) (m + n + r .admitted) (omega arith)
+pub after-after : (m n : ℕ) (r : Ran) → afterEvents m (afterEvents n r) ≡ afterEvents (m + n) r
+after-after m n r = same-admitted (afterEvents m (afterEvents n r)) (m + n + r .admitted) (omega arith)
 
-pub after-nothing : (m : ℕ) (p : Plan) (t : Table) → after m (ran p t []) ≡ record { table = t; admitted = m }
-after-nothing m p t = same-admitted (after m (ran p t [])) m (omega arith)
+pub after-nothing : (m : ℕ) (p : Plan) (t : Table) → afterEvents m (ran p t []) ≡ record { table = t; admitted = m }
+after-nothing m p t = same-admitted (afterEvents m (ran p t [])) m (omega arith)
 
 -- first some events, then others
-pub run-parts : (p : Plan) (t : Table) (es fs : List Event) → ran p t (es ++ fs) ≡ after (ran p t es .admitted) (ran p (ran p t es .table) fs)
-run-parts p t [] fs = after-none (ran p t fs)
+pub run-parts : (p : Plan) (t : Table) (es fs : List Event) → ran p t (es ++ fs) ≡ afterEvents (ran p t es .admitted) (ran p (ran p t es .table) fs)
+run-parts p t [] fs = after-no-event (ran p t fs)
 run-parts p t (e ∷ es) fs =
     let one : ℕ = cond (isAdmitted (answer p (t .list) e)) 1 0 in
     let next = tableOf (listAfter p (t .list) e) in
-    ap (after one) (run-parts p next es fs) ∙ after-after one (ran p next es .admitted) (ran p (ran p next es .table) fs)
+    ap (afterEvents one) (run-parts p next es fs) ∙ after-after one (ran p next es .admitted) (ran p (ran p next es .table) fs)
 
 -- one event
 pub run-one : (p : Plan) (t : Table) (e : Event) (o : Outcome) (r : Ran) → o ≡ outcome p t e
@@ -79,16 +79,16 @@ module _ (letters jobs kinds : List ℕ) where
     events-here : i < length letters → i < length jobs → i < length kinds → eventsFrom i ≡ eventAt i ++ eventsFrom (i + 1)
     events-here a b c = rw (add-one, drop-cons letters i 0, drop-cons jobs i 0, drop-cons kinds i 0) refl
 
-    -- the event at this place is run
+    -- the event at this offset is run
     pub run-step : (p : Plan) (t : Table) (m : ℕ) (r : Ran) → i < length letters → i < length jobs → i < length kinds
-        → r ≡ ran p t (eventAt i) → after m (ran p t (eventsFrom i)) ≡ after (m + r .admitted) (ran p (r .table) (eventsFrom (i + 1)))
+        → r ≡ ran p t (eventAt i) → afterEvents m (ran p t (eventsFrom i)) ≡ afterEvents (m + r .admitted) (ran p (r .table) (eventsFrom (i + 1)))
     run-step p t m r a b c made =
         let here = eventAt i in
         let rest = eventsFrom (i + 1) in
-        ap (λ es. after m (ran p t es)) (events-here a b c)
-        ∙ ap (after m) (run-parts p t here rest)
+        ap (λ es. afterEvents m (ran p t es)) (events-here a b c)
+        ∙ ap (afterEvents m) (run-parts p t here rest)
         ∙ after-after m (ran p t here .admitted) (ran p (ran p t here .table) rest)
-        ∙ ap (λ (r : Ran). after (m + r .admitted) (ran p (r .table) rest)) (sym made)
+        ∙ ap (λ (r : Ran). afterEvents (m + r .admitted) (ran p (r .table) rest)) (sym made)
 
     pub letters-end : length letters ≤ i → eventsFrom i ≡ []
     letters-end h = rw (drop-of-length-le letters {i = i} h) refl

@@ -7,7 +7,7 @@ use Rattle.model.specs.Plan.{demandOf, weightOf}
 use Rattle.model.specs.Jobs.{overJobs}
 use Rattle.model.specs.declared.Job.{Job}
 use Rattle.model.proofs.Lists.{zeros-at}
-use Rattle.internals.specs.Parts.{sumsOf, noSums}
+use Rattle.internals.specs.Internals.{sumsOf, noSums}
 use Rattle.internals.proofs.FixedWidth.{tabulated}
 use Rattle.plan_bytes.specs.Over.{planRead}
 use Rattle.plan_bytes.specs.declared.Frame.{Frame}

@@ -1,6 +1,6 @@
 // What is asked of the entrances, and of the row test beneath them, and written, each number after a tab. Each function hands back the table afterwards.
+use crate::dotted::write_dotted;
 use crate::plan::Plan;
-use crate::spell::write_dotted;
 use crate::table::first_stage;
 use crate::table::jobs;
 use crate::table::loaded;
@@ -102,8 +102,8 @@ fn rows(p: Plan, t: Table) -> Table {
     t
 }
 
-// The plan written into so many bytes: the answer, the length, and how many bytes of a larger space were changed.
-fn spelling(p: Plan, t: Table, room: u32) -> Table {
+// The plan written into so many bytes: the answer, the length, and how many bytes of a larger buffer were changed.
+fn written(p: Plan, t: Table, room: u32) -> Table {
     let s = write_dotted(p, room as usize);
     let writing = s.writing;
     let answer = writing.answer;
@@ -174,7 +174,7 @@ pub(crate) fn asked(
         b'e' => entrances(p, t),
         b'r' => list(p, t, line, x, y, z, w),
         b'w' => rows(p, t),
-        b'p' => spelling(p, t, x),
+        b'p' => written(p, t, x),
         b'f' => stage(t),
         b':' => text(line, t),
         b'=' | b'+' => next_text(line, t),

@@ -1,7 +1,7 @@
-// What is written of an input: its name; the output, and a line about the space it was put into; the message, and such a line; and
+// What is written of an input: its name; the output, and a line about the buffer it was put into; the message, and such a line; and
 // an empty line. A text of more than 400 bytes is written as `long`, its checksum, its first line and its last, at most 60 bytes of
-// each. The line about the space has the length of the text, what is handed back where just so many bytes are lent, what is handed
-// back where one byte less is lent, and `kept`, or `changed` where the text differs or a byte beside it was changed. In the space
+// each. The line about the buffer has the length of the text, what is handed back where just so many bytes are lent, what is handed
+// back where one byte less is lent, and `kept`, or `changed` where the text differs or a byte beside it was changed. In the buffer
 // that is a byte too short nothing is put of an output, and all but the last byte of a message.
 use crate::checksum::of_bytes;
 use crate::lent::put;
@@ -13,7 +13,7 @@ use crate::show::write;
 use read_lines::line_end;
 use read_lines::part_of;
 
-// The line from a place on.
+// The line from an offset on.
 fn line_from(s: &[u8], at: usize) {
     let line = part_of(s, at, line_end(s, at));
     write(part_of(line, 0, 60));
@@ -59,7 +59,7 @@ fn sum_of(out: &[u8], n: usize) -> u64 {
     of_bytes(part_of(out, 0, n))
 }
 
-// In a space that is long enough: the text, and its length.
+// In a buffer that is long enough: the text, and its length.
 fn in_whole(message: bool, label: &[u8], input: &[u8], out: &mut [u8]) -> usize {
     let n = put(message, input, out);
     text(part_of(out, 0, n));
@@ -68,13 +68,13 @@ fn in_whole(message: bool, label: &[u8], input: &[u8], out: &mut [u8]) -> usize 
     n
 }
 
-// In a space of just that length: whether the text is the one with this checksum.
+// In a buffer of just that length: whether the text is the one with this checksum.
 fn in_exact(message: bool, input: &[u8], out: &mut [u8], n: usize, sum: u64) -> bool {
     number(put_within(message, input, out, n) as u64);
     sum_of(out, n) == sum
 }
 
-// In a space of one byte less: whether a message is there up to its last byte, with this checksum, and of an output nothing.
+// In a buffer of one byte less: whether a message is there up to its last byte, with this checksum, and of an output nothing.
 fn in_short(message: bool, input: &[u8], out: &mut [u8], n: usize, sum: u64) -> bool {
     number(put_within(message, input, out, n) as u64);
     if message {
@@ -102,9 +102,9 @@ fn shown(message: bool, label: &[u8], input: &[u8], out: &mut [u8]) {
     verdict(whole && exact && short);
 }
 
-// The input is the first n bytes of the space.
-pub(crate) fn case(name: &[u8], space: &[u8], n: usize, out: &mut [u8]) {
-    let input = part_of(space, 0, n);
+// The input is the first n bytes of the buffer.
+pub(crate) fn case(name: &[u8], buffer: &[u8], n: usize, out: &mut [u8]) {
+    let input = part_of(buffer, 0, n);
     write(name);
     write(b"\n");
     shown(false, b"output", input, out);

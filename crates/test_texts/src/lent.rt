@@ -1,8 +1,8 @@
-// A space that is lent to an entrance, and what became of it.
+// A buffer that is lent to an entrance, and what became of it.
 use moves_messages::refusal_message;
 use moves_run::answer_input;
 
-// What each byte of the space is before it is lent. No output and no message has it.
+// What each byte of the buffer is before it is lent. No output and no message has it.
 pub(crate) const UNTOUCHED: u8 = 255;
 
 // The output of an input, or its message.
@@ -23,7 +23,7 @@ pub(crate) fn put_within(message: bool, input: &[u8], out: &mut [u8], n: usize) 
     }
 }
 
-// Each byte from a place on is as it was lent.
+// Each byte from an offset on is as it was lent.
 pub(crate) fn untouched(out: &[u8], from: usize) -> bool {
     let mut i = from;
     while i < out.len() {

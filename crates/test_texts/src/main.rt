@@ -17,54 +17,54 @@ mod text;
 use bytes::scan::find;
 use libc::STDIN_FILENO;
 use read_lines::line_end;
-use text::Space;
+use text::Buffer;
 use text::put_text;
 
-fn case(name: &[u8], line: &[u8], space: &mut Space, kept: usize) -> usize {
-    let n = put_text(line, name.len(), space, kept);
-    show::case(name, space, n);
+fn case(name: &[u8], line: &[u8], buffer: &mut Buffer, kept: usize) -> usize {
+    let n = put_text(line, name.len(), buffer, kept);
+    show::case(name, buffer, n);
     kept
 }
 
-fn input(name: &[u8], line: &[u8], space: &mut Space, kept: usize, out: &mut [u8]) -> usize {
-    let n = put_text(line, name.len() + 1, space, kept);
-    inputs::case(name, space, n, out);
+fn input(name: &[u8], line: &[u8], buffer: &mut Buffer, kept: usize, out: &mut [u8]) -> usize {
+    let n = put_text(line, name.len() + 1, buffer, kept);
+    inputs::case(name, buffer, n, out);
     kept
 }
 
-// Without a space the text is empty. Hands back how many bytes of the space the next texts begin with.
-fn next(line: &[u8], space: &mut Space, kept: usize, out: &mut [u8]) -> usize {
+// Without a space the text is empty. Hands back how many bytes of the buffer the next texts begin with.
+fn next(line: &[u8], buffer: &mut Buffer, kept: usize, out: &mut [u8]) -> usize {
     let end = find(line, 0, line.len(), b' ');
     if end == 0 {
         return kept;
     }
     match line[0] {
         b'#' => kept,
-        b'>' => put_text(line, end, space, 0),
-        b'+' => input(&line[1..end], line, space, kept, out),
-        _ => case(&line[0..end], line, space, kept),
+        b'>' => put_text(line, end, buffer, 0),
+        b'+' => input(&line[1..end], line, buffer, kept, out),
+        _ => case(&line[0..end], line, buffer, kept),
     }
 }
 
-fn run(cases: &[u8], space: &mut Space, out: &mut [u8]) {
+fn run(cases: &[u8], buffer: &mut Buffer, out: &mut [u8]) {
     let mut kept = 0;
     let mut at = 0;
     while at < cases.len() {
         let end = line_end(cases, at);
-        kept = next(&cases[at..end], space, kept, out);
+        kept = next(&cases[at..end], buffer, kept, out);
         at = end + 1;
     }
 }
 
-// The space that a case's text is put into, and the one that is lent to an entrance.
-fn run_in_spaces(cases: &[u8]) {
-    let mut space = [0u8; 65600];
+// The buffer that a case's text is put into, and the one that is lent to an entrance.
+fn run_in_buffers(cases: &[u8]) {
+    let mut buffer = [0u8; 65600];
     let mut out = [lent::UNTOUCHED; moves_run::ENOUGH];
-    run(cases, &mut space, &mut out);
+    run(cases, &mut buffer, &mut out);
 }
 
 fn main() {
     let mut cases = io::large_buffer();
     let n = io::read_full(STDIN_FILENO, &mut cases);
-    run_in_spaces(&cases[..n]);
+    run_in_buffers(&cases[..n]);
 }

@@ -16,9 +16,9 @@ fn with_stage(h: u64, stages: &[u8; 8192], at: usize) -> u64 {
     let mut h = h;
     let mut i = 0;
     while i < 32 {
-        let place = at % 128 * 64 + i;
-        h = with_byte(h, stages[place]);
-        h = with_byte(h, stages[place + 32]);
+        let offset = at % 128 * 64 + i;
+        h = with_byte(h, stages[offset]);
+        h = with_byte(h, stages[offset + 32]);
         i += 1;
     }
     h

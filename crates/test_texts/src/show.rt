@@ -51,11 +51,11 @@ fn answered(text: &[u8]) {
     crate::plan::show(r.frame, &r.stages);
 }
 
-// The text is the first n bytes of the space.
-pub(crate) fn case(name: &[u8], space: &[u8], n: usize) {
-    if n <= space.len() {
+// The text is the first n bytes of the buffer.
+pub(crate) fn case(name: &[u8], buffer: &[u8], n: usize) {
+    if n <= buffer.len() {
         write(name);
-        answered(&space[0..n]);
+        answered(&buffer[0..n]);
         write(b"\n");
     }
 }

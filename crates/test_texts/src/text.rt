@@ -1,7 +1,7 @@
-// A text put into a space, byte by byte, from its notation. What does not fit begins at the start again.
+// A text put into a buffer, byte by byte, from its notation. What does not fit begins at the start again.
 
 // More than the longest text that is not refused for its length.
-pub(crate) type Space = [u8; 65600];
+pub(crate) type Buffer = [u8; 65600];
 
 // Where the line is read and how many bytes are there; where the repetition goes on that was begun last, its turn and its
 // last turn; the number up to here between < and > or between ( and *, and whether one is being read.
@@ -15,9 +15,9 @@ struct Writer {
     in_number: bool,
 }
 
-fn put(b: u8, space: &mut Space, w: Writer) -> Writer {
+fn put(b: u8, buffer: &mut Buffer, w: Writer) -> Writer {
     let i = w.n % 65600;
-    space[i] = b;
+    buffer[i] = b;
     let mut next = w;
     next.n = i + 1;
     next
@@ -28,9 +28,9 @@ fn digit(x: u32) -> u8 {
 }
 
 // The turn, in two digits.
-fn put_turn(space: &mut Space, w: Writer) -> Writer {
-    let next = put(digit(w.turn / 10), space, w);
-    put(digit(w.turn), space, next)
+fn put_turn(buffer: &mut Buffer, w: Writer) -> Writer {
+    let next = put(digit(w.turn / 10), buffer, w);
+    put(digit(w.turn), buffer, next)
 }
 
 fn number_begun(w: Writer) -> Writer {
@@ -65,42 +65,42 @@ fn repetition_ended(w: Writer) -> Writer {
     next
 }
 
-fn put_named(space: &mut Space, w: Writer) -> Writer {
+fn put_named(buffer: &mut Buffer, w: Writer) -> Writer {
     let mut next = w;
     next.in_number = false;
-    put((w.number % 256) as u8, space, next)
+    put((w.number % 256) as u8, buffer, next)
 }
 
-fn in_number(b: u8, space: &mut Space, w: Writer) -> Writer {
+fn in_number(b: u8, buffer: &mut Buffer, w: Writer) -> Writer {
     match b {
-        b'>' => put_named(space, w),
+        b'>' => put_named(buffer, w),
         b'*' => repetition_begun(w),
         _ => number_goes_on(b, w),
     }
 }
 
-fn in_text(b: u8, space: &mut Space, w: Writer) -> Writer {
+fn in_text(b: u8, buffer: &mut Buffer, w: Writer) -> Writer {
     match b {
-        b' ' => put(b'\t', space, w),
-        b'/' => put(b'\n', space, w),
-        b'%' => put_turn(space, w),
+        b' ' => put(b'\t', buffer, w),
+        b'/' => put(b'\n', buffer, w),
+        b'%' => put_turn(buffer, w),
         b'<' | b'(' => number_begun(w),
         b')' => repetition_ended(w),
-        _ => put(b, space, w),
+        _ => put(b, buffer, w),
     }
 }
 
-fn put_next(b: u8, space: &mut Space, w: Writer) -> Writer {
+fn put_next(b: u8, buffer: &mut Buffer, w: Writer) -> Writer {
     if w.in_number {
-        in_number(b, space, w)
+        in_number(b, buffer, w)
     } else {
-        in_text(b, space, w)
+        in_text(b, buffer, w)
     }
 }
 
 // What the line writes after its space, behind the n bytes that are there; hands back how many are there then. No line that is in
 // use takes a million steps.
-pub(crate) fn put_text(line: &[u8], blank: usize, space: &mut Space, n: usize) -> usize {
+pub(crate) fn put_text(line: &[u8], blank: usize, buffer: &mut Buffer, n: usize) -> usize {
     let mut w = Writer {
         at: blank % 65536 + 1,
         n,
@@ -117,7 +117,7 @@ pub(crate) fn put_text(line: &[u8], blank: usize, space: &mut Space, n: usize) -
             return w.n;
         }
         w.at = at + 1;
-        w = put_next(line[at], space, w);
+        w = put_next(line[at], buffer, w);
         steps += 1;
     }
     w.n

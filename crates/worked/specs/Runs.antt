@@ -1,7 +1,7 @@
 -- Document 01's starred runs, as rows of one table: what is asked, and the numbers that the paper gives for it. With them the
 -- crossing plan's text, where the part that a refusal shows stands, the whole run, as events and from bytes to bytes, a number used again after its unload, both sides of
 -- the largest number, the pulls of change request S-1, with what the ledger holds before and after one, and the row that 19 names
--- by change request S-2; and by S-3 the crossing plan written and respelled, spaces that fit and one a byte short, zeros, a refused text and an unsound plan.
+-- by change request S-2; and by S-3 the crossing plan written and printedAgain, buffers that fit and one a byte short, zeros, a refused text and an unsound plan.
 use Prim.Native.Nat.{ℕ, zero, suc}
 use mathlib.Core.List.{List, [], _∷_, _++_, map}
 use lib.ListN.{replicate}
@@ -22,8 +22,8 @@ use Rattle.plan_text.specs.TextQuestions.{textNumber}
 use Rattle.plan_text.specs.Reading.{reading}
 use Rattle.moves_text.specs.Quoted.{quoted}
 use Rattle.moves_text.specs.Output.{output}
-use Rattle.canonical_text.specs.Writing.{writeNumber, writing, spaceAfter}
-use Rattle.canonical_text.specs.Respelled.{respelledOutput}
+use Rattle.canonical_text.specs.Writing.{writeNumber, writing, bufferAfter}
+use Rattle.canonical_text.specs.CanonicalOutput.{canonicalOutput}
 use Rattle.worked.specs.Texts.{capacityText, largeCapacityText, stagesText, moreStagesText, repeatedText, unfinishedText, crossingText, shuffledText, oneStageText, wholeInput, wholeOutput, pullInput, pullOutput, planNumbers}
 use Rattle.worked.specs.Plans.{crossingWith, crossingPlan, equation40, withoutRows, oneStation, oneStage, jobsPerStage}
 
@@ -39,8 +39,8 @@ pub data Run : Type 0 where
   followed : Plan → List Event → Run
   booked : Plan → List Event → Run
   printed : List ℕ → Run
-  spelled : Plan → ℕ → Run
-  respelled : List ℕ → Run
+  writtenInto : Plan → ℕ → Run
+  printedAgain : List ℕ → Run
 
 -- the list f 1, .., f n
 upTo : ℕ → (ℕ → ℕ) → List ℕ
@@ -86,10 +86,10 @@ result (booked p es) =
     ∷ admittedCount (answers p emptyList es)
     ∷ []
 result (printed input) = output input
-result (spelled p room) =
-    let space : List ℕ = replicate room 46 in
-    writeNumber (writing p space .answer) ∷ writing p space .length ∷ spaceAfter p space
-result (respelled text) = respelledOutput text
+result (writtenInto p room) =
+    let buffer : List ℕ = replicate room 46 in
+    writeNumber (writing p buffer .answer) ∷ writing p buffer .length ∷ bufferAfter p buffer
+result (printedAgain text) = canonicalOutput text
 
 pub record Row : Type 0 where
   pub asked : Run
@@ -160,13 +160,13 @@ rows =
     ∷ row (answered (oneStage (5 ∷ 0 ∷ []) (7 ∷ 3 ∷ [])) [] (Load 1 1)) (19 ∷ 2 ∷ [])
     ∷ row (answered (oneStage (1 ∷ 1 ∷ 1 ∷ []) (2 ∷ 4 ∷ 3 ∷ [])) [] (Load 1 1)) (19 ∷ 2 ∷ [])
     ∷ row (answered (oneStage (0 ∷ 0 ∷ []) (254 ∷ 255 ∷ [])) [] (Load 1 1)) (19 ∷ 2 ∷ [])
-    ∷ row (respelled crossingText) crossingText
-    ∷ row (respelled shuffledText) crossingText
-    ∷ row (respelled capacityText) (quoted "P\t7\t3\n")
-    ∷ row (spelled crossingPlan 214) (0 ∷ 214 ∷ crossingText)
-    ∷ row (spelled crossingPlan 216) (0 ∷ 214 ∷ crossingText ++ 46 ∷ 46 ∷ [])
-    ∷ row (spelled crossingPlan 213) (9 ∷ 0 ∷ replicate 213 46)
-    ∷ row (spelled (oneStage (10 ∷ 0 ∷ []) (0 ∷ 255 ∷ [])) 57) (0 ∷ 57 ∷ oneStageText)
-    ∷ row (spelled emptyPlan 2) (11 ∷ 0 ∷ 46 ∷ 46 ∷ [])
-    ∷ row (spelled emptyPlan 0) (11 ∷ 0 ∷ [])
+    ∷ row (printedAgain crossingText) crossingText
+    ∷ row (printedAgain shuffledText) crossingText
+    ∷ row (printedAgain capacityText) (quoted "P\t7\t3\n")
+    ∷ row (writtenInto crossingPlan 214) (0 ∷ 214 ∷ crossingText)
+    ∷ row (writtenInto crossingPlan 216) (0 ∷ 214 ∷ crossingText ++ 46 ∷ 46 ∷ [])
+    ∷ row (writtenInto crossingPlan 213) (9 ∷ 0 ∷ replicate 213 46)
+    ∷ row (writtenInto (oneStage (10 ∷ 0 ∷ []) (0 ∷ 255 ∷ [])) 57) (0 ∷ 57 ∷ oneStageText)
+    ∷ row (writtenInto emptyPlan 2) (11 ∷ 0 ∷ 46 ∷ 46 ∷ [])
+    ∷ row (writtenInto emptyPlan 0) (11 ∷ 0 ∷ [])
     ∷ []

@@ -1,76 +1,76 @@
-// Text, numbers and the lines of the output of `cellmoves`, put into a lent space from a place of it on. What does not fit is left
-// out, and the length is that of the whole: so a space of no bytes measures.
+// Text, numbers and the lines of the output of `cellmoves`, put into a buffer from an offset of it on. What does not fit is left
+// out, and the length is that of the whole: so a buffer of no bytes measures.
 ghost use mathlib.Core.Path.{_≡_};
 ghost use mathlib.Core.List.{_∷_, [], _++_};
 ghost use Prim.Native.Nat.{_+_, _≤_, min};
 ghost use lib.ListN.{length};
-ghost use Rattle.moves_text.specs.Written.{decimal};
+ghost use Rattle.moves_text.specs.Decimals.{decimal};
 ghost use Rattle.moves_text.specs.OutputLines.{planLine, checkLine, eventLine};
-ghost use Rattle.moves_text.specs.Space.{overlaid, overlaidAt};
+ghost use Rattle.moves_text.specs.Buffer.{overlaid, overlaidAt};
 use bytes::copy;
 use io::decimal;
 
-// The lower of the two: where in a space a place is that may be beyond it.
+// The lower of the two: where in a buffer an offset is that may be beyond it.
 pub fn at_most(n: usize, limit: usize) -> usize
     ensures { λ r. ⌜ r ≡ min n limit ⌝ }
 {
     if limit < n { limit } else { n }
 }
 
-// From the start of the space on.
-fn lay(text: &[u8], space: &mut [u8]) -> usize
-    ensures { λ r. ⌜ (r ≡ length (now (text .entry))) × (now (space .exit) ≡ overlaid (now (text .entry)) (now (space .entry))) ⌝ }
+// From the start of the buffer on.
+fn lay(text: &[u8], buffer: &mut [u8]) -> usize
+    ensures { λ r. ⌜ (r ≡ length (now (text .entry))) × (now (buffer .exit) ≡ overlaid (now (text .entry)) (now (buffer .entry))) ⌝ }
 {
-    let n = at_most(text.len(), space.len());
-    copy(&text[..n], space);
+    let n = at_most(text.len(), buffer.len());
+    copy(&text[..n], buffer);
     text.len()
 }
 
-pub fn put_text(text: &[u8], space: &mut [u8], at: usize) -> usize
-    ensures { λ r. ⌜ (r ≡ length (now (text .entry))) × (now (space .exit) ≡ overlaidAt at (now (text .entry)) (now (space .entry))) ⌝ }
+pub fn put_text(text: &[u8], buffer: &mut [u8], at: usize) -> usize
+    ensures { λ r. ⌜ (r ≡ length (now (text .entry))) × (now (buffer .exit) ≡ overlaidAt at (now (text .entry)) (now (buffer .entry))) ⌝ }
 {
-    let from = at_most(at, space.len());
-    lay(text, &mut space[from..])
+    let from = at_most(at, buffer.len());
+    lay(text, &mut buffer[from..])
 }
 
 // In digits, without leading zeros.
-pub fn put_number(n: u32, space: &mut [u8], at: usize) -> usize
-    ensures { λ r. ⌜ (r ≡ length (decimal n)) × (now (space .exit) ≡ overlaidAt at (decimal n) (now (space .entry))) ⌝ }
+pub fn put_number(n: u32, buffer: &mut [u8], at: usize) -> usize
+    ensures { λ r. ⌜ (r ≡ length (decimal n)) × (now (buffer .exit) ≡ overlaidAt at (decimal n) (now (buffer .entry))) ⌝ }
 {
     let mut digits = [0u8; 20];
     let k = decimal(n as u64, &mut digits);
-    put_text(&digits[..k], space, at)
+    put_text(&digits[..k], buffer, at)
 }
 
 // A number and the byte after it; the place after both.
-fn put_field(n: u32, after: u8, space: &mut [u8], at: usize) -> usize
+fn put_field(n: u32, after: u8, buffer: &mut [u8], at: usize) -> usize
     requires { ⌜ at ≤ 9223372036854776000 ⌝ }
-    ensures { λ r. ⌜ (r ≡ at + length (decimal n ++ after ∷ [])) × (now (space .exit) ≡ overlaidAt at (decimal n ++ after ∷ []) (now (space .entry))) ⌝ }
+    ensures { λ r. ⌜ (r ≡ at + length (decimal n ++ after ∷ [])) × (now (buffer .exit) ≡ overlaidAt at (decimal n ++ after ∷ []) (now (buffer .entry))) ⌝ }
     ensures { λ r. ⌜ r ≤ at + 11 ⌝ }
 {
-    let to = at + put_number(n, space, at);
-    to + put_text(&[after], space, to)
+    let to = at + put_number(n, buffer, at);
+    to + put_text(&[after], buffer, to)
 }
 
 // `P`, the plan's answer, its line.
-pub fn put_plan_line(number: u32, line: u32, space: &mut [u8], at: usize) -> usize
-    ensures { λ r. ⌜ (r ≡ length (planLine number line)) × (now (space .exit) ≡ overlaidAt at (planLine number line) (now (space .entry))) ⌝ }
+pub fn put_plan_line(number: u32, line: u32, buffer: &mut [u8], at: usize) -> usize
+    ensures { λ r. ⌜ (r ≡ length (planLine number line)) × (now (buffer .exit) ≡ overlaidAt at (planLine number line) (now (buffer .entry))) ⌝ }
 {
-    let from = at_most(at, space.len());
-    let mut to = from + put_text(b"P\t", space, from);
-    to = put_field(number, b'\t', space, to);
-    put_field(line, b'\n', space, to) - from
+    let from = at_most(at, buffer.len());
+    let mut to = from + put_text(b"P\t", buffer, from);
+    to = put_field(number, b'\t', buffer, to);
+    put_field(line, b'\n', buffer, to) - from
 }
 
 // `Q`, the check's answer and its two places.
-pub fn put_check_line(number: u32, first: u32, second: u32, space: &mut [u8], at: usize) -> usize
-    ensures { λ r. ⌜ (r ≡ length (checkLine number first second)) × (now (space .exit) ≡ overlaidAt at (checkLine number first second) (now (space .entry))) ⌝ }
+pub fn put_check_line(number: u32, first: u32, second: u32, buffer: &mut [u8], at: usize) -> usize
+    ensures { λ r. ⌜ (r ≡ length (checkLine number first second)) × (now (buffer .exit) ≡ overlaidAt at (checkLine number first second) (now (buffer .entry))) ⌝ }
 {
-    let from = at_most(at, space.len());
-    let mut to = from + put_text(b"Q\t", space, from);
-    to = put_field(number, b'\t', space, to);
-    to = put_field(first, b'\t', space, to);
-    put_field(second, b'\n', space, to) - from
+    let from = at_most(at, buffer.len());
+    let mut to = from + put_text(b"Q\t", buffer, from);
+    to = put_field(number, b'\t', buffer, to);
+    to = put_field(first, b'\t', buffer, to);
+    put_field(second, b'\n', buffer, to) - from
 }
 
 // An event's ordinal, its answer, its place, and the jobs active afterwards.
@@ -79,14 +79,14 @@ pub fn put_event_line(
     number: u32,
     place: u32,
     active: u32,
-    space: &mut [u8],
+    buffer: &mut [u8],
     at: usize,
 ) -> usize
-    ensures { λ r. ⌜ (r ≡ length (eventLine ordinal number place active)) × (now (space .exit) ≡ overlaidAt at (eventLine ordinal number place active) (now (space .entry))) ⌝ }
+    ensures { λ r. ⌜ (r ≡ length (eventLine ordinal number place active)) × (now (buffer .exit) ≡ overlaidAt at (eventLine ordinal number place active) (now (buffer .entry))) ⌝ }
 {
-    let from = at_most(at, space.len());
-    let mut to = put_field(ordinal, b'\t', space, from);
-    to = put_field(number, b'\t', space, to);
-    to = put_field(place, b'\t', space, to);
-    put_field(active, b'\n', space, to) - from
+    let from = at_most(at, buffer.len());
+    let mut to = put_field(ordinal, b'\t', buffer, from);
+    to = put_field(number, b'\t', buffer, to);
+    to = put_field(place, b'\t', buffer, to);
+    put_field(active, b'\n', buffer, to) - from
 }

@@ -7,8 +7,8 @@ use mathlib.Core.Path.{_≡_, refl, sym, ap, _∙_}
 use lib.ListN.{length, take, drop, getD, set, length-set, length-append, take-append-drop}
 use lib.Seq.{take-suc, take-suc-set, take-all, length-take-le, take-at}
 use Rattle.plan_text.specs.Lines.{lineEnd, tab}
-use Rattle.moves_text.specs.Written.{decimal, lineWith}
-use Rattle.moves_text.specs.Space.{overlaidAt}
+use Rattle.moves_text.specs.Decimals.{decimal, lineWith}
+use Rattle.moves_text.specs.Buffer.{overlaidAt}
 use Rattle.moves_text.proofs.Decimals.{fewest-digits, glyph-digit}
 
 -- one byte more

@@ -1,13 +1,13 @@
-// A record's line, put into a lent space from a place of it on. What does not fit is left out, and the length is that of the whole.
+// A record's line, put into a buffer from an offset of it on. What does not fit is left out, and the length is that of the whole.
 ghost use mathlib.Core.Path.{_≡_};
 ghost use mathlib.Core.List.{_++_};
 ghost use Prim.Native.Nat.{_+_, _≤_};
 ghost use lib.ListN.{length, take};
 ghost use Rattle.model.specs.Numbers.{entry};
 ghost use Rattle.plan_text.specs.Records.{letters};
-ghost use Rattle.moves_text.specs.Written.{decimal};
-ghost use Rattle.moves_text.specs.Space.{overlaidAt};
-ghost use Rattle.canonical_text.specs.Spelling.{recordText};
+ghost use Rattle.moves_text.specs.Decimals.{decimal};
+ghost use Rattle.moves_text.specs.Buffer.{overlaidAt};
+ghost use Rattle.canonical_text.specs.CanonicalText.{recordText};
 use io::decimal;
 use plan_text::Record;
 use read_ranges::field_count;
@@ -37,7 +37,7 @@ fn digit(d: u32) -> u8
     (48 + d) as u8
 }
 
-// Any number's digits behind the first bytes of a line; the place after them.
+// Any number's digits behind the first bytes of a line; the offset after them.
 fn put_decimal(n: u32, line: &mut [u8], at: usize) -> usize
     requires { ⌜ at + 10 ≤ length (now line) ⌝ }
     ensures { λ r. ⌜ (r ≡ at + length (decimal n)) × (take r (now (line .exit)) ≡ take at (now (line .entry)) ++ decimal n) ⌝ }
@@ -73,8 +73,8 @@ fn put_digits(n: u32, line: &mut [u8], at: usize) -> usize
 }
 
 // A line is made by itself, so that it is put at once.
-pub fn put_record(rec: Record, space: &mut [u8], at: usize) -> usize
-    ensures { λ r. ⌜ (r ≡ length (recordText rec)) × (now (space .exit) ≡ overlaidAt at (recordText rec) (now (space .entry))) ⌝ }
+pub fn put_record(rec: Record, buffer: &mut [u8], at: usize) -> usize
+    ensures { λ r. ⌜ (r ≡ length (recordText rec)) × (now (buffer .exit) ≡ overlaidAt at (recordText rec) (now (buffer .entry))) ⌝ }
     ensures { λ r. ⌜ r ≤ 46 ⌝ }
 {
     let section = rec.section;
@@ -90,5 +90,5 @@ pub fn put_record(rec: Record, space: &mut [u8], at: usize) -> usize
         i += 1;
     }
     line[to] = b'\n';
-    put_text(&line[..to + 1], space, at)
+    put_text(&line[..to + 1], buffer, at)
 }

@@ -15,7 +15,7 @@ use Rattle.model.specs.declared.Plan.{Plan}
 use Rattle.model.specs.declared.Stage.{Stage}
 use Rattle.model.proofs.Decide.{decided, decides-eq}
 use Rattle.model.proofs.Lists.{zeros-at}
-use Rattle.internals.specs.Parts.{stageIndex}
+use Rattle.internals.specs.Internals.{stageIndex}
 use Rattle.internals.proofs.StageIndex.{stage-named}
 use Rattle.plan_bytes.specs.Over.{stagesSize, planRead, planOver}
 use Rattle.plan_bytes.specs.declared.Frame.{Frame}
@@ -23,7 +23,7 @@ use Rattle.plan_bytes.proofs.Nothing.{no-demand, no-weight}
 use Rattle.plan_bytes.proofs.Over.{over-whole, over-none}
 use Rattle.plan_bytes.proofs.StageBytes.{stage-beyond}
 use Rattle.plan_text.specs.Meaning.{S, A}
-use Rattle.canonical_text.specs.Spelling.{listTo, valued, entryRecords, demandRecords, typeWeights}
+use Rattle.canonical_text.specs.CanonicalText.{listTo, valued, entryRecords, demandRecords, typeWeights}
 use Rattle.write_stages.specs.StageRecords.{stageRead, stageRecords, recordsFrom, typeRecords, planStages}
 
 list-same : {A : Type 0} (n : ℕ) (f g : ℕ → List A) → ((i : ℕ) → InRange i n → f i ≡ g i) → listTo n f ≡ listTo n g

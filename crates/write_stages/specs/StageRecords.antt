@@ -13,7 +13,7 @@ use Rattle.model.specs.declared.Stage.{Stage}
 use Rattle.plan_bytes.specs.Over.{entriesIn, stageIn, stageSize}
 use Rattle.plan_text.specs.Meaning.{S, A}
 use Rattle.plan_text.specs.declared.Record.{Record}
-use Rattle.canonical_text.specs.Spelling.{listTo, valued, entryRecords}
+use Rattle.canonical_text.specs.CanonicalText.{listTo, valued, entryRecords}
 
 -- the stage at an index, counted from 0, of the plan that is read from any bytes (`planRead`)
 unfoldable pub stageRead : List ℕ → ℕ → Stage

@@ -7,14 +7,14 @@ use denote.Ref.{now}
 use lib.ListN.{length, take, length-set}
 use lib.Seq.{take-suc-set, take-all}
 use Rattle.plan_bytes.specs.Over.{entriesIn}
-use Rattle.cell_layout.specs.Layout.{numberOf}
-use Rattle.cell_layout.proofs.Entries.{entries-more}
+use Rattle.cell_layout.specs.Layout.{valueOf}
+use Rattle.cell_layout.proofs.EntryBytes.{entries-more}
 use borrow.Author.Needs.{needs}
 use Rattle.cell_reads.proofs.bounds_in.Statement.{statement}
 use Rattle.cell_reads.proofs.bounds_in.Tie as tie
 
 abbrev Inv-loop : tie.InvT-loop
-Inv-loop part bounds₀ i₀ bounds i = (i ≤ 32) × (length bounds ≡ 32) × (take i bounds ≡ entriesIn numberOf 2 i part)
+Inv-loop part bounds₀ i₀ bounds i = (i ≤ 32) × (length bounds ≡ 32) × (take i bounds ≡ entriesIn valueOf 2 i part)
 
 abbrev μ-loop : tie.MeasureT-loop
 μ-loop part bounds₀ i₀ bounds i = 32 - i
@@ -45,7 +45,7 @@ loop-again c =
     let l = c .before .before .loop in
     let bytes = now (c .before .before .before .before .args .part) in
     let written = take-suc-set (l .bounds) (l .i) (c .bound-at .result) (omega arith) in
-    let more = entries-more numberOf 2 (l .i) bytes in
+    let more = entries-more valueOf 2 (l .i) bytes in
     (search needs, simp length-set (l .inv .1), rw (add-one, written, l .inv .2, c .bound-at .ensures) (sym more))
 
 returns : tie.Need-returns Inv-loop μ-loop

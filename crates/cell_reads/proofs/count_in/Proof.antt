@@ -5,7 +5,7 @@ use denote.Ref.{now}
 use Rattle.events.specs.JobList.{listOf}
 use Rattle.cell_layout.specs.Layout.{offsetOf, jobCountPart, listLaid}
 use Rattle.cell_layout.proofs.Cells.{is-cell, no-cell}
-use Rattle.cell_layout.proofs.Entries.{number-of-one}
+use Rattle.cell_layout.proofs.EntryBytes.{number-of-one}
 use borrow.Author.Needs.{needs}
 use Rattle.cell_reads.proofs.count_in.Statement.{statement}
 use Rattle.cell_reads.proofs.count_in.Tie as tie

@@ -3,7 +3,7 @@ use native.Mathlib.Omega.{arith}
 use denote.Ref.{now}
 use Rattle.cell_layout.specs.Layout.{offsetOf, resourcesPart, typesPart, rowsPart, frameLaid}
 use Rattle.cell_layout.proofs.Cells.{is-cell, no-cell}
-use Rattle.cell_layout.proofs.Entries.{number-of-one}
+use Rattle.cell_layout.proofs.EntryBytes.{number-of-one}
 use borrow.Author.Needs.{needs}
 use Rattle.cell_reads.proofs.frame_in.Statement.{statement}
 use Rattle.cell_reads.proofs.frame_in.Tie as tie

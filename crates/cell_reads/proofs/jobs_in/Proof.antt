@@ -12,25 +12,25 @@ use Rattle.model.specs.Limits.{maxJobs}
 use Rattle.plan_bytes.specs.Over.{entriesIn}
 use Rattle.plan_bytes.proofs.Laid.{cut-later}
 use Rattle.internals.specs.JobNumbers.{jobRead, jobsLaid}
-use Rattle.cell_layout.specs.Layout.{numberOf, jobIn, jobSize, partIn, jobsPart, listLaid}
+use Rattle.cell_layout.specs.Layout.{valueOf, jobIn, jobSize, partIn, jobsPart, listLaid}
 use Rattle.cell_layout.proofs.Cells.{is-cell, no-cell}
-use Rattle.cell_layout.proofs.Entries.{entries-more, by-pieces}
+use Rattle.cell_layout.proofs.EntryBytes.{entries-more, by-pieces}
 use borrow.Author.Needs.{needs}
 use Rattle.cell_reads.proofs.jobs_in.Statement.{statement}
 use Rattle.cell_reads.proofs.jobs_in.Tie as tie
 
-three-numbers : (bs : List ℕ) → jobIn (take jobSize bs) ≡ jobRead (entriesIn numberOf 4 3 bs)
+three-numbers : (bs : List ℕ) → jobIn (take jobSize bs) ≡ jobRead (entriesIn valueOf 4 3 bs)
 three-numbers bs =
-    let number = ap numberOf (take-take 4 12 bs (omega arith)) in
-    let kind = ap numberOf (cut-later 4 4 12 bs (omega arith)) in
-    let stage = ap numberOf (cut-later 8 4 12 bs (omega arith) ∙ ap (take 4) (sym (drop-drop 4 4 bs))) in
+    let number = ap valueOf (take-take 4 12 bs (omega arith)) in
+    let kind = ap valueOf (cut-later 4 4 12 bs (omega arith)) in
+    let stage = ap valueOf (cut-later 8 4 12 bs (omega arith) ∙ ap (take 4) (sym (drop-drop 4 4 bs))) in
     λ i. record { number = number i; kind = kind i; stage = stage i }
 
-by-numbers : (bytes : List ℕ) → jobsLaid (entriesIn numberOf 4 192 bytes) ≡ entriesIn jobIn jobSize maxJobs bytes
-by-numbers bytes = by-pieces numberOf 4 jobRead jobIn 3 three-numbers maxJobs bytes
+by-numbers : (bytes : List ℕ) → jobsLaid (entriesIn valueOf 4 192 bytes) ≡ entriesIn jobIn jobSize maxJobs bytes
+by-numbers bytes = by-pieces valueOf 4 jobRead jobIn 3 three-numbers maxJobs bytes
 
 abbrev Inv-loop : tie.InvT-loop
-Inv-loop cell jobs₀ i₀ jobs i = (i ≤ 192) × (length jobs ≡ 192) × (take i jobs ≡ entriesIn numberOf 4 i (partIn jobsPart cell))
+Inv-loop cell jobs₀ i₀ jobs i = (i ≤ 192) × (length jobs ≡ 192) × (take i jobs ≡ entriesIn valueOf 4 i (partIn jobsPart cell))
 
 abbrev μ-loop : tie.MeasureT-loop
 μ-loop cell jobs₀ i₀ jobs i = 192 - i
@@ -74,7 +74,7 @@ loop-again c =
     let l = c .before .before .before .loop in
     let bytes = now (c .before .before .before .before .before .before .args .cell) in
     let written = take-suc-set (l .jobs) (l .i) (c .number-at .result) (omega arith) in
-    let more = entries-more numberOf 4 (l .i) (partIn jobsPart bytes) in
+    let more = entries-more valueOf 4 (l .i) (partIn jobsPart bytes) in
     (search needs, simp length-set (l .inv .1), rw (add-one, written, l .inv .2, c .number-at .ensures) (sym more))
 
 returns-2 : tie.Need-returns-2 Inv-loop μ-loop

@@ -11,7 +11,7 @@ use Rattle.events.specs.declared.JobList.{JobList}
 use Rattle.plan_bytes.specs.Over.{entriesIn}
 use Rattle.cell_layout.specs.Layout.{jobIn, jobSize, partIn, jobsPart, listLaid, listIn}
 use Rattle.cell_layout.proofs.Cells.{is-cell, no-cell}
-use Rattle.cell_layout.proofs.Entries.{entries-more}
+use Rattle.cell_layout.proofs.EntryBytes.{entries-more}
 use borrow.Author.Needs.{needs}
 use Rattle.cell_reads.proofs.list_in.Statement.{statement}
 use Rattle.cell_reads.proofs.list_in.Tie as tie

@@ -2,7 +2,7 @@
 use native.Mathlib.Omega.{arith}
 use denote.Ref.{now}
 use lib.ListN.{length-set}
-use Rattle.cell_layout.proofs.Entries.{two-stored}
+use Rattle.cell_layout.proofs.EntryBytes.{two-stored}
 use borrow.Author.Needs.{needs}
 use Rattle.cell_writes.proofs.put_bound.Statement.{statement}
 use Rattle.cell_writes.proofs.put_bound.Tie as tie

@@ -6,7 +6,7 @@ use mathlib.Core.Path.{_≡_, refl}
 use denote.Ref.{now}
 use lib.ListN.{length}
 use Rattle.cell_layout.specs.Layout.{bytesOf, offsetOf, boundsPart, cellSize}
-use Rattle.cell_layout.proofs.Entries.{Written, none-written, more-written, all-written, written-length}
+use Rattle.cell_layout.proofs.EntryBytes.{Written, none-written, more-written, all-written, written-length}
 use borrow.Author.Needs.{needs}
 use Rattle.cell_writes.proofs.put_bounds.Statement.{statement}
 use Rattle.cell_writes.proofs.put_bounds.Tie as tie

@@ -4,8 +4,8 @@ use mathlib.Core.Path.{refl, ap, _∙_}
 use denote.Ref.{now}
 use Rattle.plan_bytes.specs.Over.{planRead}
 use Rattle.plan_bytes.proofs.Arrays.{frame-sizes}
-use Rattle.cell_layout.specs.Layout.{bytesOf, joined, capacitiesPart, ranksPart, boundsPart, lengthsPart}
-use Rattle.cell_layout.proofs.Entries.{joined-length}
+use Rattle.cell_layout.specs.Layout.{bytesOf, bytesOfEach, capacitiesPart, ranksPart, boundsPart, lengthsPart}
+use Rattle.cell_layout.proofs.EntryBytes.{joined-length}
 use Rattle.cell_layout.proofs.Parts.{put-into, counts-put}
 use borrow.Author.Needs.{needs}
 use Rattle.cell_writes.proofs.put_frame.Statement.{statement}
@@ -43,7 +43,7 @@ returns c =
     let start = counts .before .before .before .before in
     let f = start .args .t1 in
     let sized = frame-sizes f _ (start .good .0) in
-    let bound-bytes = joined (bytesOf 2) (f .bound) in
+    let bound-bytes = bytesOfEach (bytesOf 2) (f .bound) in
     let bound-size = joined-length (bytesOf 2) 2 (λ b. refl) (f .bound) ∙ ap (λ n. 2 * n) (sized .bound) in
     put-into lengthsPart (f .lengths) (sized .lengths) (lengths .put-text4 .ensures .1)
     (put-into boundsPart bound-bytes bound-size (bounds .put-bounds .ensures)

@@ -3,7 +3,7 @@ use mathlib.Core.List.{_++_}
 use mathlib.Core.Path.{refl}
 use denote.Ref.{now}
 use Rattle.cell_layout.specs.Layout.{bytesOf}
-use Rattle.cell_layout.proofs.Entries.{behind}
+use Rattle.cell_layout.proofs.EntryBytes.{behind}
 use borrow.Author.Needs.{needs}
 use Rattle.cell_writes.proofs.put_job.Statement.{statement}
 use Rattle.cell_writes.proofs.put_job.Tie as tie

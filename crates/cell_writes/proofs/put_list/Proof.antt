@@ -9,9 +9,9 @@ use lib.ListN.{length, set, length-set}
 use Rattle.model.specs.Jobs.{noJob}
 use Rattle.events.proofs.Arrays.{list-slots}
 use Rattle.events.specs.declared.JobList.{JobList}
-use Rattle.cell_layout.specs.Layout.{bytesOf, joined, jobBytes, jobSize, offsetOf, jobCountPart, jobsPart, cellSize, withList}
+use Rattle.cell_layout.specs.Layout.{bytesOf, bytesOfEach, jobBytes, jobSize, offsetOf, jobCountPart, jobsPart, cellSize, withList}
 use Rattle.cell_layout.proofs.Cells.{is-cell, no-cell}
-use Rattle.cell_layout.proofs.Entries.{one-stored, joined-length, Written, none-written, more-written, all-written, written-length}
+use Rattle.cell_layout.proofs.EntryBytes.{one-stored, joined-length, Written, none-written, more-written, all-written, written-length}
 use Rattle.cell_layout.proofs.Parts.{put-into}
 use borrow.Author.Needs.{needs}
 use Rattle.cell_writes.proofs.put_list.Statement.{statement}
@@ -96,7 +96,7 @@ returns-2 c =
     let jobs = all-written jobBytes jobSize (offsetOf jobsPart) (l .jobs) (counted l bytes) _ (omega arith) (loop .inv .3) in
     let long = joined-length jobBytes jobSize (λ j. refl) (l .jobs) ∙ ap (λ n. jobSize * n) (loop .inv .1) in
     let count = one-stored (offsetOf jobCountPart) (l .count % 256) bytes (omega arith) in
-    rw (is-cell bytes (omega arith)) (put-into jobsPart (joined jobBytes (l .jobs)) long jobs (put-into jobCountPart (bytesOf 1 (l .count)) {now = bytes} refl count refl))
+    rw (is-cell bytes (omega arith)) (put-into jobsPart (bytesOfEach jobBytes (l .jobs)) long jobs (put-into jobCountPart (bytesOf 1 (l .count)) {now = bytes} refl count refl))
 
 pub put-list-spec : {M : Type 1} → statement M
 put-list-spec =

@@ -8,7 +8,7 @@ use borrow.Author.Needs.{needs}
 use borrow.Author.Tests.{eq-eqb, ne-eqb}
 use Rattle.model.specs.declared.Plan.{Plan}
 use Rattle.moves_text.specs.OutputLines.{planLine, aboutCheck}
-use Rattle.moves_text.specs.Space.{overlaid}
+use Rattle.moves_text.specs.Buffer.{overlaid}
 use Rattle.moves_text.proofs.Enough.{plan-line-bounded, check-short}
 use Rattle.moves_text.proofs.Overlays.{whole-laid}
 use Rattle.moves_text.proofs.OutputParts.{about-accepted, about-refused}
@@ -49,7 +49,7 @@ returns c =
     let start = line .before .before .before .before in
     let a = start .args in
     let second = checked .put-check .ensures in
-    whole-laid (planLine (a .number) (a .line)) (aboutCheck (plan start)) (now (a .space)) (about-accepted (a .number) (a .line) (plan start) (eq-eqb (a .number) 0 (omega (arith, checked .before .before .if1 .taken))))
+    whole-laid (planLine (a .number) (a .line)) (aboutCheck (plan start)) (now (a .buffer)) (about-accepted (a .number) (a .line) (plan start) (eq-eqb (a .number) 0 (omega (arith, checked .before .before .if1 .taken))))
     (line .put-plan-line .ensures) (ap (λ k. line .put-plan-line .result + k) (second .0), second .1)
 
 same-length-2 : tie.Need-same-length-2
@@ -61,7 +61,7 @@ returns-2 c =
     let start = line .before .before .before .before in
     let a = start .args in
     let e = about-refused (a .number) (a .line) (plan start) (ne-eqb (a .number) 0 (λ z. absurd (omega (arith, c .if1 .left, z)))) in
-    (line .put-plan-line .ensures .0 ∙ ap length e, line .put-plan-line .ensures .1 ∙ ap (λ out. overlaid out (now (a .space))) e)
+    (line .put-plan-line .ensures .0 ∙ ap length e, line .put-plan-line .ensures .1 ∙ ap (λ out. overlaid out (now (a .buffer))) e)
 
 pub put-about-spec : {M : Type 1} → statement M
 put-about-spec =

@@ -6,7 +6,7 @@ use borrow.Author.Needs.{needs}
 use Rattle.model.specs.Upstream.{checkNumbers}
 use Rattle.model.specs.declared.Check.{Check}
 use Rattle.moves_text.specs.OutputLines.{checkLine}
-use Rattle.moves_text.specs.Space.{overlaidAt}
+use Rattle.moves_text.specs.Buffer.{overlaidAt}
 use Rattle.moves_head.proofs.put_check.Statement.{statement}
 use Rattle.moves_head.proofs.put_check.Tie as tie
 
@@ -40,7 +40,7 @@ returns c =
     (λ i. checkLine (number .check-number .ensures i) (first .check-first .ensures i) (second .check-second .ensures i))
     ∙ ap (λ (x : Check). let n = checkNumbers x in checkLine (n .0) (n .1) (n .2)) (checked .upstream-check .ensures) in (
       put .put-check-line .ensures .0 ∙ ap length line,
-      put .put-check-line .ensures .1 ∙ ap (λ l. overlaidAt (a .at) l (now (a .space))) line,
+      put .put-check-line .ensures .1 ∙ ap (λ l. overlaidAt (a .at) l (now (a .buffer))) line,
     )
 
 pub put-check-spec : {M : Type 1} → statement M

@@ -10,9 +10,9 @@ use Rattle.moves_text.proofs.Overlays.{Put, put-as}
 use Rattle.moves_meanings.proofs.put_meaning.Statement.{statement}
 use Rattle.moves_meanings.proofs.put_meaning.Tie as tie
 
-told : (s : tie.Start) {x : TextAnswer} {n : ℕ} {next : List ℕ} → s .args .answer ≡ x → Put (s .args .at) (meaning x) (now (s .args .space)) n next
-    → Put (s .args .at) (meaning (s .args .answer)) (now (s .args .space)) n next
-told s e put = put-as (s .args .at) (now (s .args .space)) (ap meaning (sym e)) put
+told : (s : tie.Start) {x : TextAnswer} {n : ℕ} {next : List ℕ} → s .args .answer ≡ x → Put (s .args .at) (meaning x) (now (s .args .buffer)) n next
+    → Put (s .args .at) (meaning (s .args .answer)) (now (s .args .buffer)) n next
+told s e put = put-as (s .args .at) (now (s .args .buffer)) (ap meaning (sym e)) put
 
 pub put-meaning-spec : {M : Type 1} → statement M
 put-meaning-spec =

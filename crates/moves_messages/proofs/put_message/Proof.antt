@@ -10,7 +10,7 @@ use borrow.Author.Needs.{needs}
 use Rattle.plan_text.specs.declared.TextAnswer.{TextAnswer}
 use Rattle.plan_text.specs.declared.TextAnswer.the-variants.{Accepted, TooLong, BadLine, BadLetter, BadFields, OutOfRange, Repeated, Incomplete}
 use Rattle.moves_text.specs.Quoted.{quoted}
-use Rattle.moves_text.specs.Written.{decimal}
+use Rattle.moves_text.specs.Decimals.{decimal}
 use Rattle.moves_text.specs.Message.{meaning, visible, shownAfter}
 use Rattle.moves_text.proofs.Decimals.{decimal-short}
 use Rattle.moves_text.proofs.Overlays.{put-then, put-as}
@@ -110,11 +110,11 @@ returns c =
     let said = shown .before .before .before .before in
     let told = number said in
     let a = start told .args in
-    let space = now (a .space) in
-    let u = put-then 0 (quoted "line ") (decimal (a .line)) space (sym (zero-add _)) (first told .put-text .ensures) (told .put-number .ensures) in
-    let v = put-then 0 _ (quoted ": ") space (sym (zero-add _)) u (colon said .put-text2 .ensures) in
-    let w = put-then 0 _ (meaning (a .answer)) space (sym (zero-add _)) v (said .put-meaning .ensures) in
-    put-as 0 space (simp append-assoc) (put-then 0 _ (shownAfter (now (a .part))) space (sym (zero-add _)) w (shown .put-shown .ensures))
+    let buffer = now (a .buffer) in
+    let u = put-then 0 (quoted "line ") (decimal (a .line)) buffer (sym (zero-add _)) (first told .put-text .ensures) (told .put-number .ensures) in
+    let v = put-then 0 _ (quoted ": ") buffer (sym (zero-add _)) u (colon said .put-text2 .ensures) in
+    let w = put-then 0 _ (meaning (a .answer)) buffer (sym (zero-add _)) v (said .put-meaning .ensures) in
+    put-as 0 buffer (simp append-assoc) (put-then 0 _ (shownAfter (now (a .part))) buffer (sym (zero-add _)) w (shown .put-shown .ensures))
 
 pub put-message-spec : {M : Type 1} → statement M
 put-message-spec =

@@ -42,7 +42,7 @@ returns c =
     let put = c .before .before in
     let asked = put .before .before .before in
     let a = asked .before .before .before .args in
-    put-as (a .at) (now (a .space)) (none-shown (now (a .part)) (asked .if1 .taken)) (put .put-text .ensures)
+    put-as (a .at) (now (a .buffer)) (none-shown (now (a .part)) (asked .if1 .taken)) (put .put-text .ensures)
 
 slice-aggregate-put-text-2 : tie.Need-slice-aggregate-put-text-2
 slice-aggregate-put-text-2 c = search needs
@@ -82,9 +82,9 @@ returns-2 c =
     let asked = colon .before .before .before in
     let a = asked .before .before .before .args in
     let part = now (a .part) in
-    let space = now (a .space) in
-    let u = put-then (a .at) (quoted ": ") (map visible part) space refl (colon .put-text2 .ensures) (shown .put-visible .ensures) in
-    put-as (a .at) space (some-shown part (asked .if1 .left)) (put-then (a .at) _ (quoted "\n") space refl u (end .put-text3 .ensures))
+    let buffer = now (a .buffer) in
+    let u = put-then (a .at) (quoted ": ") (map visible part) buffer refl (colon .put-text2 .ensures) (shown .put-visible .ensures) in
+    put-as (a .at) buffer (some-shown part (asked .if1 .left)) (put-then (a .at) _ (quoted "\n") buffer refl u (end .put-text3 .ensures))
 
 pub put-shown-spec : {M : Type 1} → statement M
 put-shown-spec =

@@ -9,7 +9,7 @@ use lib.ListN.{length, take, getD}
 use lib.Seq.{take-suc, take-all}
 use borrow.Author.Needs.{needs}
 use Rattle.moves_text.specs.Message.{visible}
-use Rattle.moves_text.specs.Space.{overlaidAt}
+use Rattle.moves_text.specs.Buffer.{overlaidAt}
 use Rattle.moves_text.proofs.Overlays.{overlaid-at-length, Put, none-put, put-then, put-as}
 use Rattle.moves_messages.proofs.put_visible.Statement.{statement}
 use Rattle.moves_messages.proofs.put_visible.Tie as tie
@@ -20,20 +20,20 @@ shown part i = map visible (take i part)
 shown-next : (part : List ℕ) (i : ℕ) → i < length part → shown part i ++ visible (getD part i 0) ∷ [] ≡ shown part (i + 1)
 shown-next part i h = rw (add-one, take-suc part i 0 h) (sym (map-append visible (take i part) (getD part i 0 ∷ [])))
 
-next-put : (part space : List ℕ) (at i : ℕ) {b : ℕ} {now next : List ℕ} → i < length part → Put at (shown part i) space i now
-    → b ≡ visible (getD part i 0) → next ≡ overlaidAt (at + i) (b ∷ []) now → Put at (shown part (i + 1)) space (i + 1) next
-next-put part space at i {now = now} h w byte put =
+next-put : (part buffer : List ℕ) (at i : ℕ) {b : ℕ} {now next : List ℕ} → i < length part → Put at (shown part i) buffer i now
+    → b ≡ visible (getD part i 0) → next ≡ overlaidAt (at + i) (b ∷ []) now → Put at (shown part (i + 1)) buffer (i + 1) next
+next-put part buffer at i {now = now} h w byte put =
     let v : List ℕ = visible (getD part i 0) ∷ [] in
-    put-as at space (shown-next part i h) (put-then at (shown part i) v space refl w (refl, put ∙ ap (λ b. overlaidAt (at + i) (b ∷ []) now) byte))
+    put-as at buffer (shown-next part i h) (put-then at (shown part i) v buffer refl w (refl, put ∙ ap (λ b. overlaidAt (at + i) (b ∷ []) now) byte))
 
 abbrev Inv-loop : tie.InvT-loop
-Inv-loop part space₀ at i₀ space i = (i ≤ length part) × Put at (shown part i) space₀ i space
+Inv-loop part buffer₀ at i₀ buffer i = (i ≤ length part) × Put at (shown part i) buffer₀ i buffer
 
 abbrev μ-loop : tie.MeasureT-loop
-μ-loop part space₀ at i₀ space i = length part - i
+μ-loop part buffer₀ at i₀ buffer i = length part - i
 
 loop-holds : tie.Need-loop-holds Inv-loop μ-loop
-loop-holds c = let a = c .before .before .args in (omega arith, none-put (a .at) (now (a .space)))
+loop-holds c = let a = c .before .before .args in (omega arith, none-put (a .at) (now (a .buffer)))
 
 shared-slice-read-visible : tie.Need-shared-slice-read-visible Inv-loop μ-loop
 shared-slice-read-visible c = search needs
@@ -63,7 +63,7 @@ loop-again c =
     let l = byte .before .before .before in
     let a = l .before .before .before .args in (
       omega (arith, byte .before .before .loop-test .taken),
-      next-put (now (a .part)) (now (a .space)) (a .at) (l .loop .i) (byte .before .before .loop-test .taken) (l .loop .inv .1) (byte .visible .ensures)
+      next-put (now (a .part)) (now (a .buffer)) (a .at) (l .loop .i) (byte .before .before .loop-test .taken) (l .loop .inv .1) (byte .visible .ensures)
           (put .put-text .ensures .1),
     )
 
@@ -71,13 +71,13 @@ same-length : tie.Need-same-length Inv-loop μ-loop
 same-length c =
     let l = c .before in
     let a = l .before .before .before .args in
-    ap length (l .loop .inv .1 .1) ∙ overlaid-at-length (a .at) (shown (now (a .part)) (l .loop .i)) (now (a .space))
+    ap length (l .loop .inv .1 .1) ∙ overlaid-at-length (a .at) (shown (now (a .part)) (l .loop .i)) (now (a .buffer))
 
 returns : tie.Need-returns Inv-loop μ-loop
 returns c =
     let l = c .before in
     let a = l .before .before .before .args in
-    put-as (a .at) (now (a .space)) (ap (map visible) (take-all (l .loop .i) (now (a .part)) (c .loop-test .left))) (l .loop .inv .1)
+    put-as (a .at) (now (a .buffer)) (ap (map visible) (take-all (l .loop .i) (now (a .part)) (c .loop-test .left))) (l .loop .inv .1)
 
 pub put-visible-spec : {M : Type 1} → statement M
 put-visible-spec =

@@ -42,7 +42,7 @@ returns c =
     let part = put .before .before in
     let asked = part .before in
     let a = asked .before .before .before .args in
-    put-as 0 (now (a .space)) (ap (messageWith 0 TooLong) (part .part-of .ensures .bytes) ∙ too-long (now (a .input)) (asked .if1 .taken)) (put .put-message .ensures)
+    put-as 0 (now (a .buffer)) (ap (messageWith 0 TooLong) (part .part-of .ensures .bytes) ∙ too-long (now (a .input)) (asked .if1 .taken)) (put .put-message .ensures)
 
 plan-length-requires : tie.Need-plan-length-requires
 plan-length-requires c κs = search needs
@@ -63,7 +63,7 @@ returns-2 c =
     let ended = part .before in
     let a = ended .before .before .before .before .args in
     let taken = plan-taken (now (a .input)) (ended .plan-length .ensures) (part .part-of2 .ensures .bytes) in
-    put-as 0 (now (a .space)) (ap textMessage taken ∙ of-plan (now (a .input)) (ended .before .if1 .left)) (put .text-message .ensures)
+    put-as 0 (now (a .buffer)) (ap textMessage taken ∙ of-plan (now (a .input)) (ended .before .if1 .left)) (put .text-message .ensures)
 
 pub refusal-message-spec : {M : Type 1} → statement M
 refusal-message-spec =

@@ -34,7 +34,7 @@ returns c =
     let r = n .before .read in
     let a = n .before .before .before .before .args in
     let accepted = eq-eqb (textNumber (r .result .answer)) 0 (sym (n .text-number .ensures) ∙ c .if1 .taken) in
-    put-as 0 (now (a .space)) (nothing-said (now (a .text)) (readingFrom (r .result)) (sym (r .ensures)) accepted) (none-put 0 (now (a .space)))
+    put-as 0 (now (a .buffer)) (nothing-said (now (a .text)) (readingFrom (r .result)) (sym (r .ensures)) accepted) (none-put 0 (now (a .buffer)))
 
 part-of-requires : tie.Need-part-of-requires
 part-of-requires c κs = search needs
@@ -53,7 +53,7 @@ returns-2 c =
     let r = n .before .read in
     let a = n .before .before .before .before .args in
     let refused = ne-eqb (textNumber (r .result .answer)) 0 (λ e. part .before .if1 .left (n .text-number .ensures ∙ e)) in
-    put-as 0 (now (a .space))
+    put-as 0 (now (a .buffer))
     (ap (messageWith (r .result .line) (r .result .answer)) (part .part-of .ensures .bytes) ∙ refusal-said (now (a .text)) (readingFrom (r .result)) (sym (r .ensures)) refused)
     (put .put-message .ensures)
 

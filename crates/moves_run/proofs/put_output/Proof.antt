@@ -13,7 +13,7 @@ use Rattle.plan_text.specs.declared.Reading.{Reading}
 use Rattle.moves_text.specs.Division.{planLength, planPart, eventPart}
 use Rattle.moves_text.specs.OutputLines.{aboutPlan, aboutText}
 use Rattle.moves_text.specs.Output.{toPrint}
-use Rattle.moves_text.specs.Space.{overlaid}
+use Rattle.moves_text.specs.Buffer.{overlaid}
 use Rattle.moves_text.proofs.CountedFew.{plan-within}
 use Rattle.moves_text.proofs.Enough.{about-short}
 use Rattle.moves_text.proofs.Overlays.{whole-laid}
@@ -76,7 +76,7 @@ returns c =
     let line = c .before .before in
     let a = line .before .before .before .before .before .args in
     let e = too-long-output (now (a .input)) (line .before .before .if1 .taken) in
-    (line .put-plan-line .ensures .0 ∙ ap length e, line .put-plan-line .ensures .1 ∙ ap (λ out. overlaid out (now (a .space))) e)
+    (line .put-plan-line .ensures .0 ∙ ap length e, line .put-plan-line .ensures .1 ∙ ap (λ out. overlaid out (now (a .buffer))) e)
 
 plan-length-requires : tie.Need-plan-length-requires
 plan-length-requires c κs = search needs
@@ -124,7 +124,7 @@ returns-2 c =
     let k = done about in
     let a = ended k .before .before .before .before .args in
     whole-laid (aboutText (about .before .before .before .text-number .result) (taken k .line) (taken k .plan))
-    (toPrint (taken k .plan) emptyList 1 (now (lines .part-of2 .result))) (now (a .space))
+    (toPrint (taken k .plan) emptyList 1 (now (lines .part-of2 .result))) (now (a .buffer))
     (ap (λ out. out ++ toPrint (taken k .plan) emptyList 1 (now (lines .part-of2 .result))) (about-told about ∙ ap aboutPlan (sym (read-told k)))
     ∙ whole-output (input k) (short k) (taken k) (read-told k) (now (lines .part-of2 .result)) (events-told lines))
     (about .put-about .ensures) (put .put-replies .ensures)

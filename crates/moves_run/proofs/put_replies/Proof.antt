@@ -22,21 +22,21 @@ use Rattle.plan_text.proofs.LineReading.{end-found, end-bounds}
 use Rattle.moves_text.specs.EventLines.{eventIn, counted}
 use Rattle.moves_text.specs.OutputLines.{eventLine, listAfterLine}
 use Rattle.moves_text.specs.Output.{replyTo}
-use Rattle.moves_text.specs.Space.{overlaidAt}
+use Rattle.moves_text.specs.Buffer.{overlaidAt}
 use Rattle.moves_text.specs.declared.EventLine.{EventLine}
 use Rattle.moves_text.specs.declared.EventLine.the-variants.{Skipped, Malformed, Given}
 use Rattle.moves_text.proofs.Places.{active-few}
-use Rattle.moves_text.proofs.ReplySteps.{Going, going-start, counted-left, goes-past, here-short, goes-on, all-printed}
+use Rattle.moves_text.proofs.ReplySteps.{Replying, replying-start, counted-left, goes-past, here-short, goes-on, all-printed}
 use Rattle.moves_text.proofs.Overlays.{overlaid-at-length}
 use Rattle.moves_run.proofs.put_replies.Statement.{statement}
 use Rattle.moves_run.proofs.put_replies.Tie as tie
 
 abbrev Inv-loop : tie.InvT-loop
-Inv-loop events frame stages space₀ start table₀ ordinal₀ put₀ at₀ space table ordinal put at =
-    Going (planOver frame stages) events space₀ start (table .list) ordinal put at space
+Inv-loop events frame stages buffer₀ start table₀ ordinal₀ put₀ at₀ buffer table ordinal put at =
+    Replying (planOver frame stages) events buffer₀ start (table .list) ordinal put at buffer
 
 abbrev μ-loop : tie.MeasureT-loop
-μ-loop events frame stages space₀ start table₀ ordinal₀ put₀ at₀ space table ordinal put at = length events - at
+μ-loop events frame stages buffer₀ start table₀ ordinal₀ put₀ at₀ buffer table ordinal put at = length events - at
 
 -- at the head of the loop
 module _ (c : tie.At-loop Inv-loop μ-loop) where
@@ -52,7 +52,7 @@ module _ (c : tie.At-loop Inv-loop μ-loop) where
   abbrev table : JobList
   table = c .loop .table .list
 
-  going : Going plan events (now (begun .args .space)) (begun .args .start) table (c .loop .ordinal) (c .loop .put) (c .loop .at) (c .loop .space)
+  going : Replying plan events (now (begun .args .buffer)) (begun .args .start) table (c .loop .ordinal) (c .loop .put) (c .loop .at) (c .loop .buffer)
   going = c .loop .inv
 
   -- what is put ends far below the largest number
@@ -93,22 +93,22 @@ module _ (c : tie.After-event-of Inv-loop μ-loop) where
 
   -- a counted line was answered, and its line of k bytes was put
   abbrev Next : JobList → ℕ → List ℕ → Type 0
-  Next u k space =
+  Next u k buffer =
       let a = begun turn .args in
-      (k ≤ 15) × Going (plan turn) (events turn) (now (a .space)) (a .start) u (turn .loop .ordinal + 1) (turn .loop .put + k) (end + 1) space
+      (k ≤ 15) × Replying (plan turn) (events turn) (now (a .buffer)) (a .start) u (turn .loop .ordinal + 1) (turn .loop .put + k) (end + 1) buffer
 
   goes : (l : EventLine) (e : Option Event) → c .event-of .result ≡ l → ((ls : List EventLine) → counted (l ∷ ls) ≡ e ∷ counted ls)
       → (u : JobList) → u ≡ listAfterLine (plan turn) (table turn) e
       → (line : List ℕ) → (let r = replyTo (plan turn) (table turn) e in line ≡ eventLine (turn .loop .ordinal) (r .number) (r .place) (r .active))
-      → (k : ℕ) (space : List ℕ) → (k ≡ length line) × (space ≡ overlaidAt (turn .loop .put) line (turn .loop .space)) → Next u k space
-  goes l e is-line counts u after line same k space laid =
+      → (k : ℕ) (buffer : List ℕ) → (k ≡ length line) × (buffer ≡ overlaidAt (turn .loop .put) line (turn .loop .buffer)) → Next u k buffer
+  goes l e is-line counts u after line same k buffer laid =
       let t = turn in
       let a = begun t .args in
-      let lent = now (a .space) in
-      let left = counted-left (plan t) (events t) lent (a .start) (table t) (t .loop .ordinal) (t .loop .put) (t .loop .at) (t .loop .space) (going t) end there found l (heard l is-line) ∙ counts (map eventIn (linesOf (drop (end + 1) (events t)))) in
-      let short = here-short (plan t) (events t) lent (a .start) (table t) (t .loop .ordinal) (t .loop .put) (t .loop .at) (t .loop .space) (going t) end there found e left (far t .1) in (
+      let lent = now (a .buffer) in
+      let left = counted-left (plan t) (events t) lent (a .start) (table t) (t .loop .ordinal) (t .loop .put) (t .loop .at) (t .loop .buffer) (going t) end there found l (heard l is-line) ∙ counts (map eventIn (linesOf (drop (end + 1) (events t)))) in
+      let short = here-short (plan t) (events t) lent (a .start) (table t) (t .loop .ordinal) (t .loop .put) (t .loop .at) (t .loop .buffer) (going t) end there found e left (far t .1) in (
         omega (arith, laid .0, ap length same, short),
-        goes-on (plan t) (events t) lent (a .start) (table t) (t .loop .ordinal) (t .loop .put) (t .loop .at) (t .loop .space) (going t) end there found e left (far t .1) u after line same k space laid,
+        goes-on (plan t) (events t) lent (a .start) (table t) (t .loop .ordinal) (t .loop .put) (t .loop .at) (t .loop .buffer) (going t) end there found e left (far t .1) u after line same k buffer laid,
       )
 
 -- where a malformed line is answered
@@ -161,7 +161,7 @@ empty-requires c κs = search needs
 loop-holds : tie.Need-loop-holds Inv-loop μ-loop
 loop-holds c =
     let a = c .before .before .before .before .args in
-    rw (ap (λ (t : Table). t .list) (c .empty .ensures)) (going-start (planOver (a .frame) (now (a .stages))) (now (a .events)) (now (a .space)) (a .start))
+    rw (ap (λ (t : Table). t .list) (c .empty .ensures)) (replying-start (planOver (a .frame) (now (a .stages))) (now (a .events)) (now (a .buffer)) (a .start))
 
 line-end-requires : tie.Need-line-end-requires Inv-loop μ-loop
 line-end-requires c κs = search needs
@@ -193,7 +193,7 @@ loop-again c =
     let t = turn d in
     let a = begun t .args in
     let g = going t in
-    goes-past (plan t) (events t) (now (a .space)) (a .start) (table t) (t .loop .ordinal) (t .loop .put) (t .loop .at) (t .loop .space) g (end d) (there d)
+    goes-past (plan t) (events t) (now (a .buffer)) (a .start) (table t) (t .loop .ordinal) (t .loop .put) (t .loop .at) (t .loop .buffer) g (end d) (there d)
     (found d) (heard d Skipped (c .enum-told .given .1))
 
 enum-told-2 : tie.Need-enum-told-2 Inv-loop μ-loop
@@ -259,13 +259,13 @@ same-length : tie.Need-same-length Inv-loop μ-loop
 same-length c =
     let t = c .before in
     let g = going t in
-    ap length (g .written) ∙ overlaid-at-length (begun t .args .start) (g .done) (now (begun t .args .space))
+    ap length (g .written) ∙ overlaid-at-length (begun t .args .start) (g .done) (now (begun t .args .buffer))
 
 returns : tie.Need-returns Inv-loop μ-loop
 returns c =
     let t = c .before in
     let a = begun t .args in
-    all-printed (plan t) (events t) (now (a .space)) (a .start) (table t) (t .loop .ordinal) (t .loop .put) (t .loop .at) (t .loop .space) (going t)
+    all-printed (plan t) (events t) (now (a .buffer)) (a .start) (table t) (t .loop .ordinal) (t .loop .put) (t .loop .at) (t .loop .buffer) (going t)
     (c .loop-test .left)
 
 pub put-replies-spec : {M : Type 1} → statement M

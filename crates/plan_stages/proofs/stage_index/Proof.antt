@@ -1,6 +1,6 @@
 -- The stages of the types before, and those of its own type before it.
 use borrow.Author.Needs.{needs}
-use Rattle.internals.specs.Parts.{stageIndex}
+use Rattle.internals.specs.Internals.{stageIndex}
 use Rattle.plan_stages.proofs.stage_index.Statement.{statement}
 use Rattle.plan_stages.proofs.stage_index.Tie as tie
 

@@ -1,4 +1,4 @@
--- Where there is no such stage, nothing; else what lies at its place.
+-- Where there is no such stage, nothing; else what lies at its offset.
 use mathlib.Core.Path.{ap, sym, _∙_}
 use borrow.Author.Needs.{needs}
 use Rattle.model.specs.declared.Stage.{Stage}

@@ -8,7 +8,7 @@ use Rattle.model.specs.Plan.{boundOf, capacityOf, allStages}
 use Rattle.model.specs.Upstream.{faultyRow, faultyBound}
 use Rattle.model.specs.declared.Plan.{Plan}
 use Rattle.plan_bytes.specs.Over.{planRead, planOver}
-use Rattle.plan_upstream.specs.Parts.{LowestRanks, Closed}
+use Rattle.plan_upstream.specs.CheckInternals.{LowestRanks, Closed}
 use Rattle.plan_upstream.proofs.TypeEnds.{ranks-closed}
 use Rattle.plan_upstream.proofs.check_rows.Statement.{statement}
 use Rattle.plan_upstream.proofs.check_rows.Tie as tie

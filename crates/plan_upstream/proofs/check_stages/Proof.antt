@@ -12,7 +12,7 @@ use Rattle.model.specs.Plan.{allStages}
 use Rattle.model.specs.Upstream.{faultyStage, faultyType}
 use Rattle.model.specs.declared.Plan.{Plan}
 use Rattle.plan_bytes.specs.Over.{planRead, planOver}
-use Rattle.plan_upstream.specs.Parts.{Stands, FirstOther}
+use Rattle.plan_upstream.specs.CheckInternals.{Stands, FirstOther}
 use Rattle.plan_upstream.specs.declared.position.Position.{Position}
 use Rattle.plan_upstream.specs.declared.units.Units.{Units}
 use Rattle.plan_upstream.proofs.Stages.{faulty, none-faulty, at-end}

@@ -4,7 +4,7 @@ use mathlib.Core.Path.{refl, ap, _∙_}
 use lib.ListN.{take, drop}
 use borrow.Author.Needs.{needs}
 use borrow.Author.Tests.{ne-eqb}
-use Rattle.plan_text.specs.ReaderParts.{narrowed}
+use Rattle.plan_text.specs.ReaderInternals.{narrowed}
 use Rattle.read_apply.proofs.StageBytes.{demand-put, weight-put, nothing-put}
 use Rattle.read_apply.proofs.write_stage.Statement.{statement}
 use Rattle.read_apply.proofs.write_stage.Tie as tie

@@ -4,7 +4,7 @@ use native.Mathlib.Omega.{arith}
 use mathlib.Core.Path.{_≡_, sym, ap, _∙_}
 use mathlib.Core.List.{List, _∷_}
 use lib.ListN.{length, take, drop}
-use Rattle.plan_text.specs.Lines.{tab, parts, fieldsIn}
+use Rattle.plan_text.specs.Lines.{tab, columns, fieldsIn}
 use Rattle.plan_text.specs.Records.{fieldsOn, fieldsRead}
 use Rattle.plan_text.proofs.Split.{after-end}
 use Rattle.read_fields.proofs.FieldByField.{fieldsAfter, first-tab, next-tab, field-bad, field-fifth, field-next}
@@ -14,7 +14,7 @@ use Rattle.read_fields.proofs.fields_of.Tie as tie
 
 abbrev Inv-loop : tie.InvT-loop
 Inv-loop line numbers₀ count₀ at₀ numbers count at =
-    (at ≤ length line) × (count ≤ 4) × (fieldsRead (fieldsIn (parts line)) ≡ fieldsOn count numbers (fieldsAfter line at))
+    (at ≤ length line) × (count ≤ 4) × (fieldsRead (fieldsIn (columns line)) ≡ fieldsOn count numbers (fieldsAfter line at))
 
 abbrev μ-loop : tie.MeasureT-loop
 μ-loop line numbers₀ count₀ at₀ numbers count at = length line - at
@@ -36,7 +36,7 @@ module _ (c : tie.After-number Inv-loop μ-loop) where
   abbrev field : List ℕ
   field = take (end - (at + 1)) (drop (at + 1) line)
 
-  left : fieldsRead (fieldsIn (parts line)) ≡ fieldsOn (head .loop .count) (head .loop .numbers) (field ∷ fieldsAfter line end)
+  left : fieldsRead (fieldsIn (columns line)) ≡ fieldsOn (head .loop .count) (head .loop .numbers) (field ∷ fieldsAfter line end)
   left =
       head .loop .inv .2
       ∙ ap (fieldsOn (head .loop .count) (head .loop .numbers)) (next-tab line at end (omega arith) (c .before .before .find2 .ensures .0))

@@ -7,14 +7,14 @@ use mathlib.Core.Path.{_≡_, refl, sym, _∙_}
 use lib.ListN.{length, drop, getD}
 use borrow.Author.Tests.{le-leb, lt-leb}
 use Rattle.plan_text.specs.Records.{isDigit}
-use Rattle.plan_text.specs.ReaderParts.{noNumber, numberRead}
+use Rattle.plan_text.specs.ReaderInternals.{noValue, valueRead}
 use Rattle.plan_text.proofs.LineForm.{digit-below}
-use Rattle.read_fields.proofs.Digits.{readOn, digit-next, digit-bad, digits-end, digits-small}
+use Rattle.read_fields.proofs.Digits.{digitsOn, digit-next, digit-bad, digits-end, digits-small}
 use Rattle.read_fields.proofs.number.Statement.{statement}
 use Rattle.read_fields.proofs.number.Tie as tie
 
 abbrev Inv-loop : tie.InvT-loop
-Inv-loop digits x₀ i₀ x i = (i ≤ length digits) × (x < 10 ^ i) × (numberRead digits ≡ readOn x (drop i digits))
+Inv-loop digits x₀ i₀ x i = (i ≤ length digits) × (x < 10 ^ i) × (valueRead digits ≡ digitsOn x (drop i digits))
 
 abbrev μ-loop : tie.MeasureT-loop
 μ-loop digits x₀ i₀ x i = length digits - i
@@ -33,7 +33,7 @@ module _ (c : tie.At-loop Inv-loop μ-loop) where
   abbrev byte : ℕ
   byte = getD digits i 0
 
-  fits : i ≤ 5 → x < noNumber
+  fits : i ≤ 5 → x < noValue
   fits = digits-small i x (c .loop .inv .1)
 
 returns : tie.Need-returns Inv-loop μ-loop

@@ -1,7 +1,7 @@
 -- The section of a letter is that of its byte.
 use mathlib.Core.Path.{sym, ap, _∙_}
 use borrow.Author.Needs.{needs}
-use Rattle.plan_text.specs.Lines.{parts, letterIn}
+use Rattle.plan_text.specs.Lines.{columns, letterIn}
 use Rattle.plan_text.specs.Records.{letters, position}
 use Rattle.read_form.proofs.Letter.{section-by-byte}
 use Rattle.read_form.proofs.section_of.Statement.{statement}
@@ -15,7 +15,7 @@ section-of-letter-requires c κs = search needs
 
 returns : tie.Need-returns
 returns c =
-    let letter = letterIn (parts (c .before .before .before .args .line .now)) in
+    let letter = letterIn (columns (c .before .before .before .args .line .now)) in
     c .section-of-letter .ensures ∙ ap (λ b. position b 1 letters) (c .before .letter-of .ensures) ∙ sym (section-by-byte letter)
 
 pub section-of-spec : {M : Type 1} → statement M

@@ -6,7 +6,7 @@ use borrow.Author.Tests.{eq-eqb, ne-eqb, lt-leb}
 use borrow.Author.Needs.{needs}
 use Rattle.model.specs.Limits.{maxTypes}
 use Rattle.model.specs.Numbers.{at, sumTo}
-use Rattle.internals.specs.Parts.{stageIndex}
+use Rattle.internals.specs.Internals.{stageIndex}
 use Rattle.read_held.proofs.within_total.Statement.{statement}
 use Rattle.read_held.proofs.within_total.Tie as tie
 

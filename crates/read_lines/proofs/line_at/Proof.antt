@@ -10,22 +10,22 @@ use lib.Dec.{ltb, leb}
 use lib.ListN.{length}
 use borrow.Author.Needs.{needs}
 use borrow.Author.Tests.{ltb-true}
-use Rattle.plan_text.specs.LineReading.{placeFrom}
-use Rattle.plan_text.specs.declared.LinePlace.{LinePlace}
-use Rattle.plan_text.proofs.LineReading.{place-by-end}
+use Rattle.plan_text.specs.LineReading.{spanFrom}
+use Rattle.plan_text.specs.declared.LineSpan.{LineSpan}
+use Rattle.plan_text.proofs.LineReading.{span-by-end}
 use Rattle.read_lines.proofs.line_at.Statement.{statement}
 use Rattle.read_lines.proofs.line_at.Tie as tie
 
 -- what is said of a line that ends here, if the next begins there
-abbrev told : List ℕ → ℕ → ℕ → ℕ → LinePlace
+abbrev told : List ℕ → ℕ → ℕ → ℕ → LineSpan
 told text at end next = record { end = end; next = next; ended = ltb end (length text); over = leb (length text) at }
 
-module _ (text : List ℕ) (at end next : ℕ) (e : end ≡ placeFrom text at .end) where
-  is-place : (b : Bool) → ltb end (length text) ≡ b → next ≡ cond b (end + 1) end → told text at end next ≡ placeFrom text at
+module _ (text : List ℕ) (at end next : ℕ) (e : end ≡ spanFrom text at .end) where
+  is-place : (b : Bool) → ltb end (length text) ≡ b → next ≡ cond b (end + 1) end → told text at end next ≡ spanFrom text at
   is-place b is after =
       ap (told text at end) (after ∙ sym (ap (λ (x : Bool). cond x (end + 1) end) is))
       ∙ ap (λ (n : ℕ). told text at n (cond (ltb n (length text)) (n + 1) n)) e
-      ∙ sym (place-by-end text at)
+      ∙ sym (span-by-end text at)
 
 line-end-requires : tie.Need-line-end-requires
 line-end-requires c κs = search needs

@@ -14,17 +14,17 @@ use Rattle.plan_bytes.specs.declared.Frame.{Frame}
 use Rattle.plan_bytes.proofs.Stored.{stored}
 use Rattle.plan_text.specs.Lines.{Line, lineEnd}
 use Rattle.plan_text.specs.Records.{Known, inRanges}
-use Rattle.plan_text.specs.Written.{Draft, entriesAfter, boundedAfter, heldBy, heldIn, indexIn, written}
+use Rattle.plan_text.specs.Draft.{Draft, entriesAfter, boundedAfter, heldBy, heldIn, indexNamed, draftAfter}
 use Rattle.plan_text.specs.Reading.{refused, isComplete, readFrom}
 use Rattle.plan_text.specs.TextQuestions.{isAccepted}
-use Rattle.plan_text.specs.ReaderParts.{formAnswer, recordAnswer, narrowed, headAfter, draftWith, knownWith}
+use Rattle.plan_text.specs.ReaderInternals.{formAnswer, recordAnswer, narrowed, headAfter, draftWith, knownWith}
 use Rattle.plan_text.specs.declared.Record.{Record}
 use Rattle.plan_text.specs.declared.Form.{Form}
 use Rattle.plan_text.specs.declared.TextAnswer.{TextAnswer}
 use Rattle.plan_text.proofs.LineReading.{end-found, end-bounds}
-use Rattle.plan_text.proofs.ReaderSteps.{place-within, parts-written}
-use Rattle.plan_text.proofs.TextAnswerTags.{refused-tag}
-use Rattle.read_plan.proofs.Going.{Going, going-start, read-out, lineAt, recordAt, answerAt, same-answer, record-met, form-refuses, record-refuses, goes-on}
+use Rattle.plan_text.proofs.ReaderSteps.{index-within, parts-written}
+use Rattle.plan_text.proofs.TextAnswerTags.{refused-text-tag}
+use Rattle.read_plan.proofs.Going.{ReadingOn, reading-start, read-out, lineAt, recordAt, answerAt, same-answer, record-met, form-refuses, record-refuses, goes-on}
 use Rattle.read_apply.specs.StageBytes.{bytesAfter}
 use Rattle.read_plan.proofs.StageLent.{stagesLaid, empty-start, lent, stage-lent, stage-written, still-whole, plan-filled}
 use borrow.Author.Needs.{needs}
@@ -33,7 +33,7 @@ use Rattle.read_plan.proofs.read_lines.Tie as tie
 
 abbrev Inv-loop : tie.InvT-loop
 Inv-loop text head₀ capacity₀ rank₀ bound₀ lengths₀ bounded₀ stages₀ line₀ at₀ head capacity rank bound lengths bounded stages line at =
-    Going text (draftWith head capacity rank bound lengths (stagesLaid stages) bounded) line at × (length stages ≡ stagesSize)
+    ReadingOn text (draftWith head capacity rank bound lengths (stagesLaid stages) bounded) line at × (length stages ≡ stagesSize)
 
 abbrev μ-loop : tie.MeasureT-loop
 μ-loop text head₀ capacity₀ rank₀ bound₀ lengths₀ bounded₀ stages₀ line₀ at₀ head capacity rank bound lengths bounded stages line at =
@@ -50,7 +50,7 @@ module _ (c : tie.At-loop Inv-loop μ-loop) where
   short : length text ≤ 65536
   short = c .before .before .before .pre
 
-  going : Going text draft (c .loop .line) (c .loop .at)
+  going : ReadingOn text draft (c .loop .line) (c .loop .at)
   going = c .loop .inv .0
 
   whole : length (c .loop .stages) ≡ stagesSize
@@ -78,7 +78,7 @@ module _ (c : tie.After-form-at Inv-loop μ-loop) where
   abbrev turn : tie.At-loop Inv-loop μ-loop
   turn = turned ended
 
-  turning : Going (text turn) (draft turn) (turn .loop .line) (turn .loop .at)
+  turning : ReadingOn (text turn) (draft turn) (turn .loop .line) (turn .loop .at)
   turning = going turn
 
   abbrev end : ℕ
@@ -135,11 +135,11 @@ module _ (c : tie.After-record-answer Inv-loop μ-loop) where
   known = knownWith (t .loop .head .counts) (t .loop .capacity) (t .loop .lengths)
 
   abbrev index : ℕ
-  index = indexIn (t .loop .lengths) read
+  index = indexNamed (t .loop .lengths) read
 
   -- where its numbers are in range, the bytes lent are those of the record's stage
   within : inRanges known read ≡ true → index < maxAllStages
-  within met = place-within known read met (turning f .types) (turning f .few)
+  within met = index-within known read met (turning f .types) (turning f .few)
 
   here : inRanges known read ≡ true → from ≡ index * 64
   here met = placed .stage-offset .ensures .1 (within met)
@@ -164,7 +164,7 @@ module _ (c : tie.After-record-answer Inv-loop μ-loop) where
       → draftWith (headAfter (t .loop .head) read) (entriesAfter 2 (t .loop .capacity) (narrowed read)) (entriesAfter 7 (t .loop .rank) (narrowed read))
       (entriesAfter 5 (t .loop .bound) (narrowed read)) (entriesAfter 3 (t .loop .lengths) (narrowed read))
       (stagesLaid (stored from (from + 64 - from) new (t .loop .stages))) (boundedAfter (t .loop .bounded) read)
-      ≡ written (draft t) there-read
+      ≡ draftAfter (draft t) there-read
   record-written accepted new made =
       let met = ap (inRanges known) read-told ∙ record-met known (t .loop .lengths) there-read (heldIn (draft t) there-read) accepted .0 in
       ap
@@ -174,15 +174,15 @@ module _ (c : tie.After-record-answer Inv-loop μ-loop) where
       (stage-written (t .loop .stages) from index (here met) (within met) (whole t) new (narrowed read) made)
       ∙ parts-written (t .loop .head) (t .loop .capacity) (t .loop .rank) (t .loop .bound) (t .loop .lengths) (stagesLaid (t .loop .stages)) (t .loop .bounded) read
       (turning f .small) met index refl _ refl
-      ∙ ap (written (draft t)) read-told
+      ∙ ap (draftAfter (draft t)) read-told
 
 no-head-requires : tie.Need-no-head-requires Inv-loop μ-loop
 no-head-requires c κs = search needs
 
 loop-holds : tie.Need-loop-holds Inv-loop μ-loop
 loop-holds c = (
-  subst (λ (d : Draft). Going (now (c .before .before .args .text)) d 0 0) (empty-start (c .no-head .result) (c .no-head .ensures))
-      (going-start (now (c .before .before .args .text))),
+  subst (λ (d : Draft). ReadingOn (now (c .before .before .args .text)) d 0 0) (empty-start (c .no-head .result) (c .no-head .ensures))
+      (reading-start (now (c .before .before .args .text))),
   length-replicate {A = ℕ} stagesSize 0,
 )
 
@@ -209,7 +209,7 @@ returns c =
     let f = c .before .before .before in
     let t = turn f in
     let e = form-told f in
-    let no-form = sym (ap isAccepted e) ∙ refused-tag (f .form-at .result .answer) (c .before .match .keys2) in
+    let no-form = sym (ap isAccepted e) ∙ refused-text-tag (f .form-at .result .answer) (c .before .match .keys2) in
     c .refusal .ensures
     ∙ ap (λ (a : TextAnswer). refused a (t .loop .line + 1) (t .loop .at) (end f)) e
     ∙ form-refuses (text t) (draft t) (t .loop .line) (t .loop .at) (turning f) (end f) (there f) (found f) no-form
@@ -243,7 +243,7 @@ returns-2 c =
     let a = c .before .before in
     let l = t a in
     let told = answer-told a in
-    let refuses = sym (ap isAccepted told) ∙ refused-tag (a .record-answer .result) (c .before .match2 .keys2) in
+    let refuses = sym (ap isAccepted told) ∙ refused-text-tag (a .record-answer .result) (c .before .match2 .keys2) in
     c .refusal2 .ensures
     ∙ ap (λ (x : TextAnswer). refused x (l .loop .line + 1) (l .loop .at) (end (f a))) told
     ∙ record-refuses (text l) (draft l) (l .loop .line) (l .loop .at) (turning (f a)) (end (f a)) (there (f a)) (found (f a)) (formed a) refuses

@@ -9,7 +9,7 @@ use lib.ListN.{length, drop, getD}
 use borrow.Author.Needs.{needs}
 use borrow.Author.Tests.{le-leb, lt-leb}
 use Rattle.plan_text.specs.Records.{Field, Known, layoutOf, lowestIn, highestIn, numbersOf, fitsFields, inRanges}
-use Rattle.plan_text.specs.ReaderParts.{knownWith}
+use Rattle.plan_text.specs.ReaderInternals.{knownWith}
 use Rattle.read_ranges.specs.Table.{fieldAt, numberIn, highestBy}
 use Rattle.plan_text.proofs.LineForm.{few-fields}
 use Rattle.read_ranges.proofs.InRanges.{numbers-at, highest-right, fits-here, fits-end}

@@ -8,7 +8,7 @@ use Rattle.model.specs.Upstream.{checkNumbers, check}
 use Rattle.cell_layout.specs.HostAnswers.{packed, packedCheck}
 use Rattle.cell_layout.specs.Layout.{planIn}
 use Rattle.cell_layout.proofs.Lent.{lent-in}
-use Rattle.cell_layout.proofs.CheckFits.{check-small}
+use Rattle.cell_layout.proofs.CheckFits.{check-packed-small}
 use Rattle.cell_layout.proofs.HostAnswers.{no-check, checked}
 use borrow.Author.Needs.{needs}
 use Rattle.rilthoss.proofs.rilthoss_check.Statement.{statement}
@@ -52,7 +52,7 @@ check-second-requires c κs = search needs
 pack-two-requires : tie.Need-pack-two-requires
 pack-two-requires c κs =
     let u = c .before .before .before in
-    let small = check-small (planIn (bytes u)) in
+    let small = check-packed-small (planIn (bytes u)) in
     let same = told u in
     (omega (arith, small .0, c .before .before .check-number .ensures ∙ ap (λ k. checkNumbers k .0) same), omega (arith, small .1, c .check-second .ensures ∙ ap (λ k. checkNumbers k .2) same))
 

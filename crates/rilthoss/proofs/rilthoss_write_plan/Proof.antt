@@ -5,7 +5,7 @@ use mathlib.Core.List.{List}
 use mathlib.Core.Path.{_≡_, ap, _∙_}
 use denote.Ref.{now}
 use Rattle.plan_text.specs.TextQuestions.{maxText}
-use Rattle.canonical_text.specs.Writing.{writing, spaceAfter}
+use Rattle.canonical_text.specs.Writing.{writing, bufferAfter}
 use Rattle.canonical_text.specs.declared.Writing.{Writing}
 use Rattle.canonical_text.proofs.WriteAnswers.{writing-short}
 use Rattle.plan_bytes.specs.Over.{planOver}
@@ -28,17 +28,17 @@ module _ (c : tie.After-write-plan) where
   same : planOver (held .frame-in .result) (partIn stagesPart (now (begun .args .cell))) ≡ planIn (now (begun .args .cell))
   same = lent-in (now (begun .args .cell)) (omega (arith, held .before .if1 .left)) (held .frame-in .ensures)
 
-  abbrev space : List ℕ
-  space = now (begun .args .space)
+  abbrev buffer : List ℕ
+  buffer = now (begun .args .buffer)
 
-  told : c .write-plan .result ≡ writing (planIn (now (begun .args .cell))) space
-  told = c .write-plan .ensures .0 ∙ ap (λ p. writing p space) same
+  told : c .write-plan .result ≡ writing (planIn (now (begun .args .cell))) buffer
+  told = c .write-plan .ensures .0 ∙ ap (λ p. writing p buffer) same
 
   short : c .write-plan .result .length ≤ maxText
-  short = omega (arith, ap (λ (w : Writing). w .length) told, writing-short (planIn (now (begun .args .cell))) space)
+  short = omega (arith, ap (λ (w : Writing). w .length) told, writing-short (planIn (now (begun .args .cell))) buffer)
 
 returns : tie.Need-returns
-returns c = let a = c .before .before .before .args in no-write (now (a .cell)) (omega arith) (now (a .space))
+returns c = let a = c .before .before .before .args in no-write (now (a .cell)) (omega arith) (now (a .buffer))
 
 frame-in-requires : tie.Need-frame-in-requires
 frame-in-requires c κs = search needs
@@ -72,9 +72,9 @@ returns-2 c =
     let number = c .before .before in
     let put = number .before .before .before in
     let cell = now (begun put .args .cell) in
-    let w = plan-written cell (omega (arith, held put .before .if1 .left)) (space put) in (
+    let w = plan-written cell (omega (arith, held put .before .if1 .left)) (buffer put) in (
       c .pack .ensures ∙ ap (λ n. packed n (put .write-plan .result .length) 0) (number .write-number .ensures) ∙ ap packedWriting (told put) ∙ w .0,
-      put .write-plan .ensures .1 ∙ ap (λ p. spaceAfter p (space put)) (same put) ∙ w .1,
+      put .write-plan .ensures .1 ∙ ap (λ p. bufferAfter p (buffer put)) (same put) ∙ w .1,
     )
 
 pub rilthoss-write-plan-spec : {M : Type 1} → statement M

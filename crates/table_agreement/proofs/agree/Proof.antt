@@ -17,7 +17,7 @@ use Rattle.events.specs.JobList.{jobsOf}
 use Rattle.events.specs.Events.{isAdmitted}
 use Rattle.events.specs.declared.JobList.{JobList}
 use Rattle.events.proofs.AnswerTags.{refused-tag}
-use Rattle.internals.specs.Parts.{sumsOf, ceilingsOf, keptAfter, wellFormed, agreedWith, agreed}
+use Rattle.internals.specs.Internals.{sumsOf, ceilingsOf, keptAfter, wellFormed, agreedWith, agreed}
 use Rattle.internals.specs.declared.Agreement.{Agreement}
 use Rattle.internals.specs.JobNumbers.{listOver}
 use Rattle.internals.proofs.JobsLaid.{slots-laid}

@@ -14,7 +14,7 @@ use Rattle.model.specs.Numbers.{each}
 use Rattle.model.specs.Jobs.{distinct, fits}
 use Rattle.events.specs.JobList.{jobsOf, isNoJob}
 use Rattle.events.specs.declared.JobList.{JobList}
-use Rattle.internals.specs.Parts.{wellFormed}
+use Rattle.internals.specs.Internals.{wellFormed}
 use Rattle.internals.specs.JobNumbers.{listOver}
 use Rattle.internals.proofs.JobsLaid.{slots-laid, beyond-laid}
 use borrow.Author.Needs.{needs}

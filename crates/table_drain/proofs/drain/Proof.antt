@@ -8,7 +8,7 @@ use Rattle.model.specs.declared.Plan.{Plan}
 use Rattle.events.specs.Events.{isAdmitted, agreement}
 use Rattle.events.specs.declared.Answer.the-variants.{Admitted, UnsoundPlan}
 use Rattle.events.proofs.AnswerTags.{other-tag, not-admitted}
-use Rattle.internals.specs.Parts.{agreed}
+use Rattle.internals.specs.Internals.{agreed}
 use Rattle.internals.specs.declared.Agreement.{Agreement}
 use Rattle.internals.proofs.JobsLaid.{over-laid}
 use Rattle.internals.proofs.QuestionParts.{agreement-holds}

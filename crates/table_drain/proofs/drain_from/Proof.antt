@@ -9,12 +9,12 @@ use Rattle.model.specs.declared.Plan.{Plan}
 use Rattle.events.specs.JobList.{Agrees}
 use Rattle.events.specs.Events.{listAfter}
 use Rattle.events.specs.Drain.{moveOf, drainFrom, stopped}
-use Rattle.internals.specs.Parts.{ceilingsOf, earliestPosition, movedAt}
+use Rattle.internals.specs.Internals.{ceilingsOf, earliestPosition, movedAt}
 use Rattle.events.specs.declared.JobList.{JobList}
 use Rattle.events.specs.declared.End.{End}
 use Rattle.events.specs.declared.End.the-variants.{Emptied, OutOfBudget, NoMove}
 use Rattle.model.proofs.Lists.{each-getD}
-use Rattle.internals.proofs.DrainLoop.{after, after-none, after-stopped, after-more, drain-empty, drain-spent, drain-stuck, drain-goes, next-list, next-agrees}
+use Rattle.internals.proofs.DrainLoop.{afterMoves, after-no-move, after-stopped, after-more, drain-empty, drain-spent, drain-stuck, drain-goes, next-list, next-agrees}
 use Rattle.plan_bytes.specs.Over.{planRead, planOver}
 use borrow.Author.Needs.{needs}
 use Rattle.table_drain.proofs.drain_from.Statement.{statement}
@@ -23,7 +23,7 @@ use Rattle.table_drain.proofs.drain_from.Tie as tie
 abbrev Inv-loop : tie.InvT-loop
 Inv-loop stages ceilings budget frame t₀ moves₀ t moves =
     let p = planOver frame stages in
-    Sound p × Agrees p t × (ceilings ≡ ceilingsOf p) × (moves ≤ budget) × (drainFrom p budget t₀ ≡ after moves (drainFrom p (budget - moves) t))
+    Sound p × Agrees p t × (ceilings ≡ ceilingsOf p) × (moves ≤ budget) × (drainFrom p budget t₀ ≡ afterMoves moves (drainFrom p (budget - moves) t))
 
 abbrev μ-loop : tie.MeasureT-loop
 μ-loop stages ceilings budget frame t₀ moves₀ t moves = budget - moves
@@ -54,7 +54,7 @@ module _ (c : tie.At-loop Inv-loop μ-loop) where
   -- a drain that stops here has made the moves made
   stops : (e : End) → drainFrom plan (budget - moves) list ≡ stopped e list
       → record { end = e; moves = moves; list = list } ≡ drainFrom plan budget (start .args .t)
-  stops e h = sym (c .loop .inv .4 ∙ ap (after moves) h ∙ after-stopped moves (stopped e list) refl)
+  stops e h = sym (c .loop .inv .4 ∙ ap (afterMoves moves) h ∙ after-stopped moves (stopped e list) refl)
 
 abbrev head : tie.After-earliest Inv-loop μ-loop → tie.At-loop Inv-loop μ-loop
 head c = c .before .before .before .before
@@ -96,21 +96,21 @@ module _ (c : tie.Else3 Inv-loop μ-loop) where
   next-agreeing : Agrees p next
   next-agreeing = next-agrees p t (sound turn) (agrees turn) left at (found .earliest .ensures) low
 
-  goes : drainFrom p (budget turn) (start turn .args .t) ≡ after (moves turn + 1) (drainFrom p (budget turn - (moves turn + 1)) next)
+  goes : drainFrom p (budget turn) (start turn .args .t) ≡ afterMoves (moves turn + 1) (drainFrom p (budget turn - (moves turn + 1)) next)
   goes =
       let n = budget turn - moves turn in
       let rest : n - 1 ≡ budget turn - (moves turn + 1) = omega arith in
       turn .loop .inv .4
-      ∙ ap (after (moves turn)) (drain-goes p t (sound turn) (agrees turn) left at (found .earliest .ensures) low n (omega arith))
+      ∙ ap (afterMoves (moves turn)) (drain-goes p t (sound turn) (agrees turn) left at (found .earliest .ensures) low n (omega arith))
       ∙ after-more (moves turn) _
-      ∙ ap (λ n. after (moves turn + 1) (drainFrom p n next)) rest
+      ∙ ap (λ n. afterMoves (moves turn + 1) (drainFrom p n next)) rest
 
 loop-holds : tie.Need-loop-holds Inv-loop μ-loop
 loop-holds c =
     let s = c .before in
     let a = s .args in
     let whole : a .budget ≡ a .budget - 0 = omega arith in
-    (s .pre .0, s .pre .1, s .pre .2, search needs, after-none _ ∙ ap (λ n. after 0 (drainFrom (planOver (a .t1) (a .stages .now)) n (a .t))) whole)
+    (s .pre .0, s .pre .1, s .pre .2, search needs, after-no-move _ ∙ ap (λ n. afterMoves 0 (drainFrom (planOver (a .t1) (a .stages .now)) n (a .t))) whole)
 
 returns : tie.Need-returns Inv-loop μ-loop
 returns c =
@@ -144,7 +144,7 @@ loop-again c =
     let e = c .before .before .before in
     let k = turn e in
     let made = c .after-move .ensures (plan k) (sound k) (agrees k) refl ∙ leads e in
-    let drained = goes e ∙ ap (λ u. after (moves k + 1) (drainFrom (plan k) (budget k - (moves k + 1)) u)) (sym made) in
+    let drained = goes e ∙ ap (λ u. afterMoves (moves k + 1) (drainFrom (plan k) (budget k - (moves k + 1)) u)) (sym made) in
     (sound k, subst⁻¹ (Agrees (plan k)) made (next-agreeing e), k .loop .inv .2, omega arith, drained)
 
 returns-3 : tie.Need-returns-3 Inv-loop μ-loop

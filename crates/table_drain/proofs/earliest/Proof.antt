@@ -19,7 +19,7 @@ use Rattle.events.specs.Events.{isAdmitted, answer}
 use Rattle.events.specs.Drain.{moveOf}
 use Rattle.events.specs.declared.JobList.{JobList}
 use Rattle.events.proofs.AnswerTags.{refused-tag}
-use Rattle.internals.specs.Parts.{sumsOf, firstMovable}
+use Rattle.internals.specs.Internals.{sumsOf, firstMovable}
 use Rattle.internals.proofs.JobsLaid.{over-laid}
 use Rattle.internals.proofs.StageIndex.{to-within, old-read, new-read}
 use Rattle.internals.proofs.SumsAfter.{kept-same}

@@ -21,14 +21,14 @@ use Rattle.events.specs.declared.JobList.{JobList}
 use Rattle.events.specs.declared.Event.{Event}
 use Rattle.events.specs.declared.Event.the-variants.{Advance}
 use Rattle.events.proofs.AnswerTags.{refused-tag}
-use Rattle.internals.specs.Parts.{withReplaced}
+use Rattle.internals.specs.Internals.{withReplaced}
 use Rattle.internals.specs.JobNumbers.{listOver, applied}
 use Rattle.internals.specs.declared.Agreement.{Agreement}
 use Rattle.internals.proofs.StageIndex.{to-within, old-read, new-read}
 use Rattle.internals.proofs.SumsAfter.{kept-same}
 use Rattle.internals.proofs.ListChanges.{advanced-list}
 use Rattle.internals.proofs.QuestionParts.{admitted-outcome, refused-outcome}
-use Rattle.internals.proofs.ActiveQuestions.{Stands, active, advance-goes}
+use Rattle.internals.proofs.ActiveQuestions.{StandsActive, active, advance-goes}
 use Rattle.plan_bytes.specs.Over.{stagesSize, planRead, planOver}
 use Rattle.plan_bytes.specs.declared.Frame.{Frame}
 use Rattle.plan_bytes.proofs.Over.{sound-whole, over-there, at-over}
@@ -63,7 +63,7 @@ module _ (c : tie.After-enum-told) where
   met : isAdmitted (c .before .before .ask-active .result .answer) ≡ true
   met = ap isAdmitted (c .enum-told .given .1)
 
-  stands : Stands plan list (start .args .job)
+  stands : StandsActive plan list (start .args .job)
   stands = opening.stands (c .before .before .ask-active .ensures) met
 
   named : j ≡ jobOf (start .args .job) (jobsOf list)

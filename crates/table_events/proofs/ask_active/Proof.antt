@@ -1,6 +1,6 @@
 -- The answer is that of the parts: the agreement, where the search for the number ended, and the stage of the job found.
 use mathlib.Core.Path.{_≡_, ap, _∙_}
-use Rattle.internals.specs.Parts.{stageMeets, stageMet, activeAnswer}
+use Rattle.internals.specs.Internals.{stageMeets, stageMet, activeAnswer}
 use Rattle.internals.specs.declared.Found.{Found}
 use Rattle.model.specs.declared.Plan.{Plan}
 use Rattle.plan_bytes.specs.Over.{planRead, planOver}

@@ -18,7 +18,7 @@ use Rattle.events.specs.declared.Answer.{Answer}
 use Rattle.events.specs.declared.Event.{Event}
 use Rattle.events.specs.declared.Event.the-variants.{Load}
 use Rattle.events.proofs.AnswerTags.{refused-tag}
-use Rattle.internals.specs.Parts.{sumsOf, ceilingsOf, positionOf, loadAnswer, agreedWith, agreed}
+use Rattle.internals.specs.Internals.{sumsOf, ceilingsOf, positionOf, loadAnswer, agreedWith, agreed}
 use Rattle.internals.specs.JobNumbers.{listOver, applied}
 use Rattle.internals.specs.declared.Agreement.{Agreement}
 use Rattle.internals.proofs.StageIndex.{stage-named}

@@ -10,7 +10,7 @@ use Rattle.model.specs.Jobs.{noJob}
 use Rattle.model.specs.declared.Job.{Job}
 use Rattle.events.specs.JobList.{jobsOf}
 use Rattle.events.specs.declared.JobList.{JobList}
-use Rattle.internals.specs.Parts.{positionOf}
+use Rattle.internals.specs.Internals.{positionOf}
 use Rattle.internals.specs.JobNumbers.{listOver}
 use Rattle.internals.proofs.JobsLaid.{slots-laid}
 use Rattle.internals.proofs.Positions.{position-here, position-later, position-none, found-there, jobs-there}

@@ -2,7 +2,7 @@
 use mathlib.Core.Path.{refl}
 use borrow.Author.Needs.{needs}
 use borrow.Author.Tests.{lt-ltb, le-ltb}
-use Rattle.internals.specs.Parts.{withJob}
+use Rattle.internals.specs.Internals.{withJob}
 use Rattle.table_jobs.proofs.with_job.Statement.{statement}
 use Rattle.table_jobs.proofs.with_job.Tie as tie
 

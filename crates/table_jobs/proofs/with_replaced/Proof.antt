@@ -4,7 +4,7 @@ use mathlib.Core.Path.{refl}
 use borrow.Author.Needs.{needs}
 use lib.Seq.{set-out}
 use Rattle.events.proofs.Arrays.{list-slots}
-use Rattle.internals.specs.Parts.{withReplaced}
+use Rattle.internals.specs.Internals.{withReplaced}
 use Rattle.table_jobs.proofs.with_replaced.Statement.{statement}
 use Rattle.table_jobs.proofs.with_replaced.Tie as tie
 

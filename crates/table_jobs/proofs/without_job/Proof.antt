@@ -8,7 +8,7 @@ use borrow.Author.Tests.{lt-ltb, le-ltb, le-leb, lt-leb}
 use lib.ListN.{length, set, getD}
 use Rattle.model.specs.Jobs.{noJob}
 use Rattle.events.proofs.Arrays.{list-slots}
-use Rattle.internals.specs.Parts.{withoutJob}
+use Rattle.internals.specs.Internals.{withoutJob}
 use Rattle.internals.proofs.ClosingGap.{closedTo, closed-none, closed-later, closed-more, closed-all}
 use Rattle.table_jobs.proofs.without_job.Statement.{statement}
 use Rattle.table_jobs.proofs.without_job.Tie as tie

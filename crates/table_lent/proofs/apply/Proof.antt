@@ -65,7 +65,7 @@ use Rattle.events.proofs.Answer as R
 use Rattle.events.proofs.Answer.Laws as R′
 use Rattle.admission.proofs.Table as T
 use Rattle.admission.proofs.Table.Laws as T′
-use Rattle.table_lent.proofs.MachineValues.{table-val, frame-val, event-val, answer-val, IsTable, IsFrame, IsEvent, IsAnswer}
+use Rattle.table_lent.proofs.MachineValues.{table-val, frame-val, event-val, answer-val, IsTable, IsFrame, IsMachineEvent, IsAnswer}
 use Rattle.table_lent.proofs.Decision as D
 use Rattle.table_lent.proofs.Decision.Laws as D′
 use Rattle.table_lent.proofs.decided as decided
@@ -111,7 +111,7 @@ module _ {M : Type 1} (𝓤 : URA M) (H : Heap 𝓤) (A : Atoms 𝓤) (at-mem : 
   Decided = tripleOf 𝓤 H A decided.signature (decided.spec 𝓤 H A at-mem run)
 
 module _ {M : Type 1} (𝓤 : URA M) (H : Heap 𝓤) (A : Atoms 𝓤) (W : Given 𝓤 H A) (at-mem : Memory → SProp 𝓤) (run : Routine → Fun 𝓤)
-    (κ κ′ : Lft) (q q′ : Share) (b o : ℕ) (γ : GName) (h : Table) (fr : Frame) (s : RefT (List ℕ)) (e : Event) (is-f : IsFrame fr) (is-e : IsEvent e) where
+    (κ κ′ : Lft) (q q′ : Share) (b o : ℕ) (γ : GName) (h : Table) (fr : Frame) (s : RefT (List ℕ)) (e : Event) (is-f : IsFrame fr) (is-e : IsMachineEvent e) where
   -- the plan that is asked, and the machine value of its stages
   abbrev p : Plan
   p = planOver fr (now s)

@@ -7,7 +7,7 @@ use Rattle.model.specs.Limits.{maxNumber}
 use Rattle.model.specs.Numbers.{inRange}
 use Rattle.events.specs.Events.{isAdmitted}
 use Rattle.events.proofs.AnswerTags.{refused-tag}
-use Rattle.internals.specs.Parts.{activeAnswer}
+use Rattle.internals.specs.Internals.{activeAnswer}
 use Rattle.table_questions.proofs.active_answer.Statement.{statement}
 use Rattle.table_questions.proofs.active_answer.Tie as tie
 

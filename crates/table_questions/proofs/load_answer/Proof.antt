@@ -8,7 +8,7 @@ use Rattle.model.specs.Limits.{maxNumber, maxJobs}
 use Rattle.model.specs.Numbers.{inRange}
 use Rattle.events.specs.Events.{isAdmitted}
 use Rattle.events.proofs.AnswerTags.{refused-tag}
-use Rattle.internals.specs.Parts.{loadAnswer}
+use Rattle.internals.specs.Internals.{loadAnswer}
 use Rattle.table_questions.proofs.load_answer.Statement.{statement}
 use Rattle.table_questions.proofs.load_answer.Tie as tie
 

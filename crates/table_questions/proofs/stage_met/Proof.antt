@@ -1,7 +1,7 @@
 -- In each arm what is wanted is known, and so is the test that the definition gives it.
 use Prim.Native.Nat.{ℕ}
 use mathlib.Core.Path.{_≡_, sym, ap}
-use Rattle.internals.specs.Parts.{stageMeets}
+use Rattle.internals.specs.Internals.{stageMeets}
 use Rattle.internals.specs.declared.StageAsked.{StageAsked}
 use Rattle.table_questions.proofs.stage_met.Statement.{statement}
 use Rattle.table_questions.proofs.stage_met.Tie as tie

@@ -11,8 +11,8 @@ use Rattle.admission.specs.declared.Table.{Table}
 use Rattle.table_runs.specs.Run.{eventsOf, ran}
 use Rattle.table_runs.specs.declared.Ran.{Ran}
 use Rattle.table_runs.proofs.EventByEvent.{
-  after,
-  after-none,
+  afterEvents,
+  after-no-event,
   after-nothing,
   admitted-one,
   eventsFrom,
@@ -28,7 +28,7 @@ use Rattle.table_runs.proofs.run.Tie as tie
 abbrev Inv-loop : tie.InvT-loop
 Inv-loop frame stages letters jobs kinds t₀ admitted₀ i₀ t admitted i =
     let p = planOver frame stages in
-    (admitted ≤ i) × (ran p t₀ (eventsOf letters jobs kinds) ≡ after admitted (ran p t (eventsFrom letters jobs kinds i)))
+    (admitted ≤ i) × (ran p t₀ (eventsOf letters jobs kinds) ≡ afterEvents admitted (ran p t (eventsFrom letters jobs kinds i)))
 
 abbrev μ-loop : tie.MeasureT-loop
 μ-loop frame stages letters jobs kinds t₀ admitted₀ i₀ t admitted i = length letters - i
@@ -62,7 +62,7 @@ module _ (c : tie.At-loop Inv-loop μ-loop) where
   -- a run that stops here has admitted what is admitted
   stops : eventsFrom letters jobs kinds i ≡ []
       → record { table = table; admitted = admitted } ≡ ran plan (start .args .t) (eventsOf letters jobs kinds)
-  stops h = sym (c .loop .inv .1 ∙ ap (λ es. after admitted (ran plan table es)) h ∙ after-nothing admitted plan table)
+  stops h = sym (c .loop .inv .1 ∙ ap (λ es. afterEvents admitted (ran plan table es)) h ∙ after-nothing admitted plan table)
 
 -- where each slice has an entry left
 module _ (c : tie.Then2 Inv-loop μ-loop) where
@@ -92,7 +92,7 @@ module _ (c : tie.After-struct-known Inv-loop μ-loop) where
       omega (arith, ap (λ (r : Ran). r .admitted) (stepped .step .ensures), most)
 
 loop-holds : tie.Need-loop-holds Inv-loop μ-loop
-loop-holds c = (search needs, after-none _)
+loop-holds c = (search needs, after-no-event _)
 
 shared-slice-read-step : tie.Need-shared-slice-read-step Inv-loop μ-loop
 shared-slice-read-step c = search needs

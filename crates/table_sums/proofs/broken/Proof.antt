@@ -1,7 +1,7 @@
 -- The row test of what the two stages weigh.
 use mathlib.Core.Path.{ap₂, _∙_}
 use borrow.Author.Needs.{needs}
-use Rattle.internals.specs.Parts.{worstAfter}
+use Rattle.internals.specs.Internals.{worstAfter}
 use Rattle.table_sums.proofs.broken.Statement.{statement}
 use Rattle.table_sums.proofs.broken.Tie as tie
 

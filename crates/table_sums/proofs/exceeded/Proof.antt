@@ -1,7 +1,7 @@
 -- The capacity test of what the two stages demand.
 use mathlib.Core.Path.{ap₂, _∙_}
 use borrow.Author.Needs.{needs}
-use Rattle.internals.specs.Parts.{lowestAfter}
+use Rattle.internals.specs.Internals.{lowestAfter}
 use Rattle.table_sums.proofs.exceeded.Statement.{statement}
 use Rattle.table_sums.proofs.exceeded.Tie as tie
 

@@ -3,7 +3,7 @@ use mathlib.Core.Path.{refl}
 use borrow.Author.Needs.{needs}
 use borrow.Author.Tests.{eq-eqb, ne-eqb}
 use Rattle.events.specs.Events.{keptAnswer}
-use Rattle.internals.specs.Parts.{keptAfter}
+use Rattle.internals.specs.Internals.{keptAfter}
 use Rattle.table_sums.proofs.kept_after.Statement.{statement}
 use Rattle.table_sums.proofs.kept_after.Tie as tie
 

@@ -7,7 +7,7 @@ use borrow.Author.Needs.{needs}
 use borrow.Author.Tests.{le-leb, lt-leb}
 use lib.Dec.{leb}
 use Rattle.model.proofs.Search.{lowest-more, lowest-at}
-use Rattle.internals.specs.Parts.{lowestAfter}
+use Rattle.internals.specs.Internals.{lowestAfter}
 use Rattle.table_sums.proofs.lowest_above.Statement.{statement}
 use Rattle.table_sums.proofs.lowest_above.Tie as tie
 

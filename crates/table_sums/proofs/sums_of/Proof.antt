@@ -11,7 +11,7 @@ use Rattle.model.specs.declared.Plan.{Plan}
 use Rattle.model.specs.declared.Job.{Job}
 use Rattle.events.specs.JobList.{jobsOf}
 use Rattle.events.specs.declared.JobList.{JobList}
-use Rattle.internals.specs.Parts.{sumsOf}
+use Rattle.internals.specs.Internals.{sumsOf}
 use Rattle.internals.specs.JobNumbers.{listOver}
 use Rattle.internals.proofs.JobsLaid.{slots-laid}
 use Rattle.internals.proofs.StageIndex.{stands}

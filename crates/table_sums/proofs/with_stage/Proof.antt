@@ -1,7 +1,7 @@
 -- Each list grows by what the stage has in its own.
 use mathlib.Core.Path.{subst}
 use borrow.Author.Needs.{needs}
-use Rattle.internals.specs.Parts.{Added}
+use Rattle.internals.specs.Internals.{Added}
 use Rattle.table_sums.proofs.with_stage.Statement.{statement}
 use Rattle.table_sums.proofs.with_stage.Tie as tie
 

@@ -4,7 +4,7 @@ use native.Mathlib.Omega.{arith}
 use mathlib.Core.Path.{_≡_, refl, sym, ap, _∙_}
 use borrow.Author.Needs.{needs}
 use Rattle.model.proofs.Search.{greatest-more}
-use Rattle.internals.specs.Parts.{greatestAfter}
+use Rattle.internals.specs.Internals.{greatestAfter}
 use Rattle.internals.specs.declared.WorstRow.{WorstRow}
 use Rattle.table_sums.proofs.worst_row.Statement.{statement}
 use Rattle.table_sums.proofs.worst_row.Tie as tie

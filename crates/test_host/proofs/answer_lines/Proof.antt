@@ -1,4 +1,4 @@
--- `answer_lines` is safe and ends: a walk of its MIR, by hand, with a loop. In each turn the reader is lent to `next` and comes back at its next place
+-- `answer_lines` is safe and ends: a walk of its MIR, by hand, with a loop. In each turn the reader is lent to `next` and comes back at its next offset
 -- (`LentReader.antt`); then either the text is over and the function returns, or less of it is left, the line's event is read (`Passed.antt`), the table
 -- is lent to `apply`, with the stages, and both come back (`LentTable.antt`), and line, answer and table are passed to `tell`.
 mod LentReader
@@ -47,7 +47,7 @@ use denote.Triple.Spec.{Meets, tripleOf}
 use denote.Triple.Table.{entered, cited}
 use denote.Triple.Walked.{Stays, stay-dropped, walkOf, AllGo, goes-dropped, Walks, ends-at, walked, walk-meets}
 use denote.Exit.{yes}
-use Rattle.plan_text.specs.LineReading.{placeFrom}
+use Rattle.plan_text.specs.LineReading.{spanFrom}
 use Rattle.line_reader.specs.declared.LineReader.{LineReader}
 use Rattle.line_reader.specs.declared.TextLine.{TextLine}
 use Rattle.plan_bytes.specs.declared.Frame.{Frame}
@@ -186,15 +186,15 @@ module _ {M : Type 1} (𝓤 : URA M) (H : Heap 𝓤) (A : Atoms 𝓤) (W : Given
       nothing ! $ nothing ! $ fjoin ! $ nothing ! $ fjoin ! $ nothing ! $ fjoin ! $
       feqI ! (List Val) (vunit ∷ []) (vunit ∷ []) refl $ move ! (1 ∷ 0 ∷ []) $ join ! $ move ! (1 ∷ 0 ∷ []) $ join ! $ frame ! $ done !
 
-  -- the reader at a place of the text
-  abbrev at-place : ℕ → LineReader
-  at-place n = record { text = s; at = n }
+  -- the reader at an offset of the text
+  abbrev at-offset : ℕ → LineReader
+  at-offset n = record { text = s; at = n }
 
-  -- the place after the one that is read at n
+  -- the offset after the one that is read at n
   abbrev on : ℕ → ℕ
-  on n = placeFrom (now s) n .next
+  on n = spanFrom (now s) n .next
 
-  -- where a turn begins: the reader's place, and the table
+  -- where a turn begins: the reader's offset, and the table
   abbrev Turn : Type 0
   Turn = ℕ × ((t : Table) × IsTable t)
 
@@ -240,17 +240,17 @@ module _ {M : Type 1} (𝓤 : URA M) (H : Heap 𝓤) (A : Atoms 𝓤) (W : Given
 
       -- the invariant: [the reader in memory; its token; the stages; _4; _19 at 4; _18 at 6; …; _6 at 30; …; _3 at 34; _2 at 36; _1 at 38; _0 at 40; …]
       abbrev At : Turn → List (Item 𝓤)
-      At i = ‵ (Lies κ l₅ 0 (at-place (i .0))) ∷ ‵ (flft κ q) ∷ Lent ∷ table-at (i .1 .0) ∷ Reading (‵ (froom line l₆ 0))
+      At i = ‵ (Lies κ l₅ 0 (at-offset (i .0))) ∷ ‵ (flft κ q) ∷ Lent ∷ table-at (i .1 .0) ∷ Reading (‵ (froom line l₆ 0))
 
       abbrev Turned : Turn → Out → SProp 𝓤
       Turned i = afterTurn 𝓤 H (Below 𝓤 H A Nearer At i) (afterBlock 𝓤 H (afterSeq 𝓤 H (Wp 𝓤 H C Λ En code.Mir.t-6 (atReturn 𝓤 H En Post)) (atReturn 𝓤 H En Post)))
 
       -- what the triples of `next` and `apply` bind outside, and what the lender keeps
       abbrev lending : Turn → ℕ → GName → Next 𝓤 H A at-mem run .Ghost
-      lending i ν γ = to-next 𝓤 H A W at-mem run κ q l₅ 0 (at-place (i .0)) ν γ
+      lending i ν γ = to-next 𝓤 H A W at-mem run κ q l₅ 0 (at-offset (i .0)) ν γ
 
       abbrev kept : Turn → ℕ → GName → SProp 𝓤
-      kept i ν γ = Kept 𝓤 H A W at-mem run κ q l₅ 0 (at-place (i .0)) ν γ
+      kept i ν γ = Kept 𝓤 H A W at-mem run κ q l₅ 0 (at-offset (i .0)) ν γ
 
       abbrev lending-table : Turn → Event → ℕ → GName → Apply 𝓤 H A at-mem run .Ghost
       lending-table i e ν δ = to-apply 𝓤 H A W at-mem run κ′ q′ l₄ (i .1 .0) fr st e ν δ
@@ -259,10 +259,10 @@ module _ {M : Type 1} (𝓤 : URA M) (H : Heap 𝓤) (A : Atoms 𝓤) (W : Given
       kept-table i e ν δ = TableKept 𝓤 H A W at-mem run κ′ q′ l₄ (i .1 .0) fr st e ν δ
 
       -- the text is over: every local is freed
-      ends : (n : ℕ) → Sq W (‵ (Lies κ l₅ 0 (at-place n)) ∷ ‵ (flft κ q) ∷ Lent ∷ ‵ (froom T′.mir l₄ 0) ∷
+      ends : (n : ℕ) → Sq W (‵ (Lies κ l₅ 0 (at-offset n)) ∷ ‵ (flft κ q) ∷ Lent ∷ ‵ (froom T′.mir l₄ 0) ∷
           Beside (‵ (froom line l₆ 0)) (‵ (froom text l₃ 0)) (‵ (froom lent-stages l₂ 0)) (‵ (froom F′.mir l₁ 0))) (frees En (prop (Post vunit)))
       ends n =
-          use1 W (‵ (froom reader l₅ 0)) (lies-room 𝓤 H A W at-mem run κ q l₅ 0 (at-place n)) $ move ! (40 ∷ 41 ∷ []) $ free1 ! $
+          use1 W (‵ (froom reader l₅ 0)) (lies-room 𝓤 H A W at-mem run κ q l₅ 0 (at-offset n)) $ move ! (40 ∷ 41 ∷ []) $ free1 ! $
           move ! (38 ∷ 39 ∷ []) $ free1 ! $ move ! (36 ∷ 37 ∷ []) $ free1 ! $ move ! (34 ∷ 35 ∷ []) $ free1 ! $ move ! (3 ∷ 33 ∷ []) $ free1 ! $ move ! (0 ∷ 31 ∷ []) $ free1 ! $
           move ! (28 ∷ 29 ∷ []) $ free1 ! $ move ! (26 ∷ 27 ∷ []) $ free1 ! $ move ! (24 ∷ 25 ∷ []) $ free1 ! $ move ! (22 ∷ 23 ∷ []) $ free1 ! $ move ! (20 ∷ 21 ∷ []) $ free1 ! $
           move ! (18 ∷ 19 ∷ []) $ free1 ! $ move ! (16 ∷ 17 ∷ []) $ free1 ! $ move ! (14 ∷ 15 ∷ []) $ free1 ! $ move ! (12 ∷ 13 ∷ []) $ free1 ! $ move ! (10 ∷ 11 ∷ []) $ free1 ! $
@@ -270,7 +270,7 @@ module _ {M : Type 1} (𝓤 : URA M) (H : Heap 𝓤) (A : Atoms 𝓤) (W : Given
 
       -- a line was read: its event is answered, and the turn ends with the table that `apply` leaves
       answers : (i : Turn) (l : TextLine) → Is (ShrSlice (named 1) κ u8) (l .bytes) (v (l .bytes) ∷ []) → Nearer (on (i .0), i .1) i
-          → Sq W (‵ (LineOwn κ l (R′.lowered l)) ∷ (‵ (Lies κ l₅ 0 (at-place (on (i .0)))) ⊛ ‵ (flft κ q)) ∷ Lent ∷ table-at (i .1 .0) ∷
+          → Sq W (‵ (LineOwn κ l (R′.lowered l)) ∷ (‵ (Lies κ l₅ 0 (at-offset (on (i .0)))) ⊛ ‵ (flft κ q)) ∷ Lent ∷ table-at (i .1 .0) ∷
           Reading (‵ (fat fullShare line l₆ 0 (R′.lowered l)))) (runs C Λ En tested (anyQ (Turned i)))
       unfolding afterTurn
       answers i l is-bytes less =
@@ -322,13 +322,13 @@ module _ {M : Type 1} (𝓤 : URA M) (H : Heap 𝓤) (A : Atoms 𝓤) (W : Given
           assigns ! (addr ! (from ! (stop !))) (from ! (stop !)) (init ! 20 refl (tt, tt)) $
           -- the reader is lent, and `next` is called
           use2 W (later (some (λ (ν : ℕ). some (λ (γ : GName). raw (Next 𝓤 H A at-mem run .pre (lending i ν γ)) ⊛ raw (kept i ν γ)))))
-          (goes-next 𝓤 H A W at-mem run κ q l₅ 0 (at-place (i .0))) $
+          (goes-next 𝓤 H A W at-mem run κ q l₅ 0 (at-offset (i .0))) $
           await ! tt $ pick ! (λ ν. pick ! (λ γ. split ! $
           -- [what `next` asks; what the lender keeps; the stages; _4; _19 at 4; …]
           calls-at ! fm (Next 𝓤 H A at-mem run) known-next (lending i ν γ) (and-then ! (load ! (from ! (stop !)) (look ! 20 refl)) (no-more !)) (λ u.
           -- the line and the reader come back
-          use2 W (later (some (λ (l : TextLine). given (Said (at-place (i .0)) l) (‵ (LineOwn κ l u) ⊛ ‵ (Lies κ l₅ 0 (at-place (on (i .0)))) ⊛ ‵ (flft κ q)))))
-          (comes 𝓤 H A W at-mem run κ q l₅ 0 (at-place (i .0)) ν γ u) $ await ! tt $
+          use2 W (later (some (λ (l : TextLine). given (Said (at-offset (i .0)) l) (‵ (LineOwn κ l u) ⊛ ‵ (Lies κ l₅ 0 (at-offset (on (i .0)))) ⊛ ‵ (flft κ q)))))
+          (comes 𝓤 H A W at-mem run κ q l₅ 0 (at-offset (i .0)) ν γ u) $ await ! tt $
           pick ! (λ l. learn ! (λ e. split ! $ peeks ! (R.the-row (α κ)) (Is (R.the-row (α κ))) (shows 𝓤 H A (R.the-row (α κ))) l (u ∷ []) (λ is.
           -- [what the line owns; the reader in memory and its token; the stages; _4; _19 at 4; …]
           land ! (from ! (stop !)) (init ! 30 refl (LL.lawful (R.the-type (αᵉ κ)) (R′.the-laws (αᵉ κ)) 𝓤 H A W .typed l _ is .0)) $
@@ -339,7 +339,7 @@ module _ {M : Type 1} (𝓤 : URA M) (H : Heap 𝓤) (A : Atoms 𝓤) (W : Given
           (λ over. assigns ! (of-opd ! (unit-lit !)) (from ! (stop !)) (init ! 40 refl (tt, tt)) $ returns-within ! Post refl (look ! 40 refl) $ drop ! $ split ! $
           forget ! 3 refl $ forget ! 18 refl $ forget ! 20 refl $ forget ! 30 refl $ forget ! 34 refl $ forget ! 36 refl $ forget ! 38 refl $ forget ! 40 refl $ ends (on (i .0)))
           (λ more. skips ! $ exec ! C Λ En tested (anyQ (Turned i)) $ forget ! 18 refl $ forget ! 20 refl $
-          answers i l (LL.owed (R.the-type (α κ)) (R′.the-laws (α κ)) l _ is .0) (nearer (at-place (i .0)) l e more))))))))
+          answers i l (LL.owed (R.the-type (α κ)) (R′.the-laws (α κ)) l _ is .0) (nearer (at-offset (i .0)) l e more))))))))
 
     walk : Is (ShrSlice (named 0) κ′ u8) st (v st ∷ []) → Is (ShrSlice (named 1) κ u8) s (v s ∷ [])
         → ent 𝓤 Entry (WpFn 𝓤 H C Λ code.function (frame-val fr ∷ v st ∷ v s ∷ []) Post)
@@ -364,13 +364,13 @@ module _ {M : Type 1} (𝓤 : URA M) (H : Heap 𝓤) (A : Atoms 𝓤) (W : Given
         move ! (42 ∷ 40 ∷ []) $ use2 W (raw (New 𝓤 H A at-mem run .pre (to-new 𝓤 H A W at-mem run κ q s))) (goes-new 𝓤 H A W at-mem run κ q s) $
         -- [what `new` asks; _19 at 1; …; the stages at 41]
         calls-at ! fm (New 𝓤 H A at-mem run) known-new (to-new 𝓤 H A W at-mem run κ q s) (and-then ! (load ! (from ! (stop !)) (look ! 33 refl)) (no-more !)) (λ w.
-        use1 W (later (‵ (B κ .own (at-place 0) (w ∷ [])) ⊛ ‵ (flft κ q))) (new-gives 𝓤 H A W at-mem run κ q s w) $ await ! tt $ split ! $
-        peeks ! (B κ) (Is (B κ)) (shows 𝓤 H A (B κ)) (at-place 0) (w ∷ []) (λ is.
+        use1 W (later (‵ (B κ .own (at-offset 0) (w ∷ [])) ⊛ ‵ (flft κ q))) (new-gives 𝓤 H A W at-mem run κ q s w) $ await ! tt $ split ! $
+        peeks ! (B κ) (Is (B κ)) (shows 𝓤 H A (B κ)) (at-offset 0) (w ∷ []) (λ is.
         -- [what the reader owns; its token; _19 at 2; …; the stages at 42]
-        land ! (from ! (stop !)) (init ! 20 refl (LL.lawful (D.the-type (αᵉ κ)) (D′.the-laws (αᵉ κ)) 𝓤 H A W .typed (at-place 0) _ is .0)) $
+        land ! (from ! (stop !)) (init ! 20 refl (LL.lawful (D.the-type (αᵉ κ)) (D′.the-laws (αᵉ κ)) 𝓤 H A W .typed (at-offset 0) _ is .0)) $
         assigns ! (of-opd ! (load ! (from ! (stop !)) (look ! 20 refl))) (from ! (stop !))
-        (init ! 30 refl (LL.lawful (D.the-type (αᵉ κ)) (D′.the-laws (αᵉ κ)) 𝓤 H A W .typed (at-place 0) _ is .0)) $ forget ! 20 refl $
-        move ! (30 ∷ 0 ∷ 1 ∷ 42 ∷ 32 ∷ []) $ use2 W (‵ (Lies κ l₅ 0 (at-place 0))) (lies-in 𝓤 H A W at-mem run κ q l₅ 0 (at-place 0) w) $
+        (init ! 30 refl (LL.lawful (D.the-type (αᵉ κ)) (D′.the-laws (αᵉ κ)) 𝓤 H A W .typed (at-offset 0) _ is .0)) $ forget ! 20 refl $
+        move ! (30 ∷ 0 ∷ 1 ∷ 42 ∷ 32 ∷ []) $ use2 W (‵ (Lies κ l₅ 0 (at-offset 0))) (lies-in 𝓤 H A W at-mem run κ q l₅ 0 (at-offset 0) w) $
         first ! $ blocks ! $ loops ! 𝓣 Nearer Nearer-wf (At l₀ l₁ l₂ l₃ l₄ l₅ l₆ l₇ l₈ l₉ l₁₀ l₁₁ l₁₂ l₁₃ l₁₄ l₁₅ l₁₆ l₁₇ l₁₈ l₁₉)
         (turns l₀ l₁ l₂ l₃ l₄ l₅ l₆ l₇ l₈ l₉ l₁₀ l₁₁ l₁₂ l₁₃ l₁₄ l₁₅ l₁₆ l₁₇ l₁₈ l₁₉) (0, (t, at-table t u is-u)))))))))))))))))))))))))))
 

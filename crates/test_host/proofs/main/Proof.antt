@@ -1,4 +1,4 @@
--- `main` is safe and ends: the input has at most 65,536 bytes, so that the place behind the plan and its `E` is a number.
+-- `main` is safe and ends: the input has at most 65,536 bytes, so that the offset behind the plan and its `E` is a number.
 use Prim.Native.Nat.{ℕ, _+_, _≤_}
 use native.Mathlib.Omega.{arith}
 use mathlib.Core.List.{List}

@@ -1,4 +1,4 @@
--- The lent space keeps its length, and each line ends within the cases.
+-- The buffer keeps its length, and each line ends within the cases.
 use Prim.Native.Nat.{_-_, _≤_}
 use native.Mathlib.Omega.{arith}
 use mathlib.Core.Path.{_≡_}
@@ -9,10 +9,10 @@ use Rattle.test_texts.proofs.run.Statement.{statement}
 use Rattle.test_texts.proofs.run.Tie as tie
 
 abbrev Inv-loop : tie.InvT-loop
-Inv-loop cases space₀ out₀ kept₀ at₀ space out kept at = length out ≡ length out₀
+Inv-loop cases buffer₀ out₀ kept₀ at₀ buffer out kept at = length out ≡ length out₀
 
 abbrev μ-loop : tie.MeasureT-loop
-μ-loop cases space₀ out₀ kept₀ at₀ space out kept at = length cases - at
+μ-loop cases buffer₀ out₀ kept₀ at₀ buffer out kept at = length cases - at
 
 line-within : (c : tie.After-line-end Inv-loop μ-loop) → let t = c .before .before in
     (t .loop .at ≤ c .line-end .result) × (c .line-end .result ≤ length (t .before .before .before .args .cases .now))

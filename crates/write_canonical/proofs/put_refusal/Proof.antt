@@ -7,7 +7,7 @@ use denote.Ref.{now}
 use lib.ListN.{length, take, drop, replicate}
 use lib.Seq.{take-at}
 use Rattle.moves_text.specs.OutputLines.{planLine}
-use Rattle.moves_text.specs.Space.{overlaid}
+use Rattle.moves_text.specs.Buffer.{overlaid}
 use Rattle.moves_text.proofs.Enough.{plan-line-bounded}
 use Rattle.moves_text.proofs.Overlays.{overlaid-whole, overlaid-fits, overlaid-length, nothing-filled, put-as}
 use borrow.Author.Needs.{needs}
@@ -15,9 +15,9 @@ use Rattle.write_canonical.proofs.put_refusal.Statement.{statement}
 use Rattle.write_canonical.proofs.put_refusal.Tie as tie
 
 -- a text laid over a longer list, taken again
-taken-back : (text space : List ℕ) (n : ℕ) → length text ≤ length space → n ≡ length text → take n (overlaid text space) ≡ text
-taken-back text space n fits size =
-    ap (take n) (overlaid-whole text space fits) ∙ take-at text (drop (length text) space) n (sym size)
+taken-back : (text buffer : List ℕ) (n : ℕ) → length text ≤ length buffer → n ≡ length text → take n (overlaid text buffer) ≡ text
+taken-back text buffer n fits size =
+    ap (take n) (overlaid-whole text buffer fits) ∙ take-at text (drop (length text) buffer) n (sym size)
 
 -- where the line is made
 module _ (c : tie.After-put-plan-line) where
@@ -46,7 +46,7 @@ put-plan-line-requires c κs = search needs
 returns : tie.Need-returns
 returns c =
     let d = c .before .before in
-    nothing-filled (line d) (now (begun d .args .space)) (omega (arith, d .put-plan-line .ensures .0, c .if1 .taken))
+    nothing-filled (line d) (now (begun d .args .buffer)) (omega (arith, d .put-plan-line .ensures .0, c .if1 .taken))
 
 array-share-prefix-refusal : tie.Need-array-share-prefix-refusal
 array-share-prefix-refusal c = let d = c .before .before in omega (arith, few d, size d, d .put-plan-line .ensures .0)
@@ -65,9 +65,9 @@ returns-2 c =
     let put = c .before .before in
     let asked = put .before .before .before in
     let d = asked .before .before in
-    let space = now (begun d .args .space) in
-    let laid = put-as 0 space (made d) (put .put-text .ensures) in
-    let w = overlaid-fits (line d) space (omega (arith, d .put-plan-line .ensures .0, asked .if1 .left)) in
+    let buffer = now (begun d .args .buffer) in
+    let laid = put-as 0 buffer (made d) (put .put-text .ensures) in
+    let w = overlaid-fits (line d) buffer (omega (arith, d .put-plan-line .ensures .0, asked .if1 .left)) in
     (laid .0 ∙ w .0, laid .1 ∙ w .1)
 
 pub put-refusal-spec : {M : Type 1} → statement M

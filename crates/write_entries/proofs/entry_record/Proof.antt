@@ -5,7 +5,7 @@ use mathlib.Core.Path.{_≡_, refl}
 use borrow.Author.Tests.{ne-eqb}
 use Rattle.plan_text.specs.Meaning.{line}
 use Rattle.plan_text.specs.declared.Record.{Record}
-use Rattle.canonical_text.specs.WriterParts.{entryOf}
+use Rattle.canonical_text.specs.WriterInternals.{entryOf}
 use borrow.Author.Needs.{needs}
 use Rattle.write_entries.proofs.entry_record.Statement.{statement}
 use Rattle.write_entries.proofs.entry_record.Tie as tie

@@ -8,7 +8,7 @@ use Rattle.model.specs.Numbers.{at}
 use Rattle.plan_text.specs.Meaning.{B}
 use Rattle.plan_text.specs.declared.Record.{Record}
 use Rattle.moves_text.proofs.Overlays.{put-as}
-use Rattle.canonical_text.specs.Spelling.{recordText}
+use Rattle.canonical_text.specs.CanonicalText.{recordText}
 use Rattle.canonical_text.proofs.Puts.{Puts, puts-start, puts-more, puts-length, puts-all}
 use borrow.Author.Needs.{needs}
 use Rattle.write_entries.proofs.put_bounds.Statement.{statement}
@@ -18,10 +18,10 @@ abbrev own : List ℕ → ℕ → List Record
 own bounds w = B w (at bounds w) ∷ []
 
 abbrev Inv-loop : tie.InvT-loop
-Inv-loop bounds rows space₀ at from to₀ i₀ space to i = Puts (own bounds) 46 from rows i to space₀ space
+Inv-loop bounds rows buffer₀ at from to₀ i₀ buffer to i = Puts (own bounds) 46 from rows i to buffer₀ buffer
 
 abbrev μ-loop : tie.MeasureT-loop
-μ-loop bounds rows space₀ at from to₀ i₀ space to i = rows - i
+μ-loop bounds rows buffer₀ at from to₀ i₀ buffer to i = rows - i
 
 -- where a record is put
 module _ (c : tie.After-put-record Inv-loop μ-loop) where
@@ -32,13 +32,13 @@ module _ (c : tie.After-put-record Inv-loop μ-loop) where
   turn = read .before .before
 
   put : let a = turn .before .before .before .before .args in
-      Puts (own (now (a .bounds))) 46 (turn .before .at-most .result) (a .rows) (turn .loop .i + 1) (turn .loop .to + c .put-record .result) (now (a .space))
+      Puts (own (now (a .bounds))) 46 (turn .before .at-most .result) (a .rows) (turn .loop .i + 1) (turn .loop .to + c .put-record .result) (now (a .buffer))
       (c .put-record .last .1 .0)
   put =
       let a = turn .before .before .before .before .args in
       let l = turn .loop in
-      puts-more (own (now (a .bounds))) 46 (turn .before .at-most .result) (a .rows) (now (a .space)) (l .inv) (read .before .loop-test .taken)
-      (put-as (l .to) (l .space)
+      puts-more (own (now (a .bounds))) 46 (turn .before .at-most .result) (a .rows) (now (a .buffer)) (l .inv) (read .before .loop-test .taken)
+      (put-as (l .to) (l .buffer)
       (ap (λ v. recordText (B (l .i + 1) v)) (read .bound-of .ensures) ∙ sym (append-nil (recordText (B (l .i + 1) (at (now (a .bounds)) (l .i + 1))))))
       (c .put-record .ensures .0))
       (c .put-record .ensures .1)
@@ -47,7 +47,7 @@ at-most-requires : tie.Need-at-most-requires Inv-loop μ-loop
 at-most-requires c κs = search needs
 
 loop-holds : tie.Need-loop-holds Inv-loop μ-loop
-loop-holds c = let a = c .before .before .before .args in puts-start (own (now (a .bounds))) 46 (c .at-most .result) (a .rows) (now (a .space))
+loop-holds c = let a = c .before .before .before .args in puts-start (own (now (a .bounds))) 46 (c .at-most .result) (a .rows) (now (a .buffer))
 
 add-row : tie.Need-add-row Inv-loop μ-loop
 add-row c = search needs
@@ -77,13 +77,13 @@ sub-result : tie.Need-sub-result Inv-loop μ-loop
 sub-result c = omega (arith, c .before .loop .inv .laid .0)
 
 same-length : tie.Need-same-length Inv-loop μ-loop
-same-length c = let t = c .before in puts-length _ 46 (t .before .at-most .result) _ (now (t .before .before .before .before .args .space)) (t .loop .inv)
+same-length c = let t = c .before in puts-length _ 46 (t .before .at-most .result) _ (now (t .before .before .before .before .args .buffer)) (t .loop .inv)
 
 returns : tie.Need-returns Inv-loop μ-loop
 returns c =
     let t = c .before in
     let a = t .before .before .before .before .args in
-    puts-all (own (now (a .bounds))) 46 (t .before .at-most .result) (a .rows) (now (a .space)) (a .at) (t .loop .inv) (c .loop-test .left)
+    puts-all (own (now (a .bounds))) 46 (t .before .at-most .result) (a .rows) (now (a .buffer)) (a .at) (t .loop .inv) (c .loop-test .left)
     (t .before .at-most .ensures)
 
 pub put-bounds-spec : {M : Type 1} → statement M

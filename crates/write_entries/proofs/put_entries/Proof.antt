@@ -7,8 +7,8 @@ use denote.Ref.{now}
 use Rattle.model.specs.Numbers.{at}
 use Rattle.plan_text.specs.declared.Record.{Record}
 use Rattle.moves_text.proofs.Overlays.{put-as}
-use Rattle.canonical_text.specs.Spelling.{valued, textOf}
-use Rattle.canonical_text.specs.WriterParts.{entryOf}
+use Rattle.canonical_text.specs.CanonicalText.{valued, textOf}
+use Rattle.canonical_text.specs.WriterInternals.{entryOf}
 use Rattle.canonical_text.proofs.Puts.{Puts, puts-start, puts-more, puts-length, puts-all}
 use borrow.Author.Needs.{needs}
 use Rattle.write_entries.proofs.put_entries.Statement.{statement}
@@ -19,10 +19,10 @@ abbrev own : Record → List ℕ → ℕ → List Record
 own like xs i = valued (at xs i) (entryOf like i)
 
 abbrev Inv-loop : tie.InvT-loop
-Inv-loop like xs count space₀ at from to₀ i₀ space to i = Puts (own like xs) 46 from count i to space₀ space
+Inv-loop like xs count buffer₀ at from to₀ i₀ buffer to i = Puts (own like xs) 46 from count i to buffer₀ buffer
 
 abbrev μ-loop : tie.MeasureT-loop
-μ-loop like xs count space₀ at from to₀ i₀ space to i = count - i
+μ-loop like xs count buffer₀ at from to₀ i₀ buffer to i = count - i
 
 -- where the record of an entry is put
 module _ (c : tie.After-put-valued Inv-loop μ-loop) where
@@ -33,20 +33,20 @@ module _ (c : tie.After-put-valued Inv-loop μ-loop) where
   turn = read .before .before
 
   put : let a = turn .before .before .before .before .args in
-      Puts (own (a .like) (now (a .xs))) 46 (turn .before .at-most .result) (a .count) (turn .loop .i + 1) (turn .loop .to + c .put-valued .result) (now (a .space))
+      Puts (own (a .like) (now (a .xs))) 46 (turn .before .at-most .result) (a .count) (turn .loop .i + 1) (turn .loop .to + c .put-valued .result) (now (a .buffer))
       (c .put-valued .last .1 .1 .1 .0)
   put =
       let a = turn .before .before .before .before .args in
       let l = turn .loop in
-      puts-more (own (a .like) (now (a .xs))) 46 (turn .before .at-most .result) (a .count) (now (a .space)) (l .inv) (read .before .loop-test .taken)
-      (put-as (l .to) (l .space) (ap (λ v. textOf (valued v (entryOf (a .like) (l .i + 1)))) (read .entry-of .ensures)) (c .put-valued .ensures .0))
+      puts-more (own (a .like) (now (a .xs))) 46 (turn .before .at-most .result) (a .count) (now (a .buffer)) (l .inv) (read .before .loop-test .taken)
+      (put-as (l .to) (l .buffer) (ap (λ v. textOf (valued v (entryOf (a .like) (l .i + 1)))) (read .entry-of .ensures)) (c .put-valued .ensures .0))
       (c .put-valued .ensures .1)
 
 at-most-requires : tie.Need-at-most-requires Inv-loop μ-loop
 at-most-requires c κs = search needs
 
 loop-holds : tie.Need-loop-holds Inv-loop μ-loop
-loop-holds c = let a = c .before .before .before .args in puts-start (own (a .like) (now (a .xs))) 46 (c .at-most .result) (a .count) (now (a .space))
+loop-holds c = let a = c .before .before .before .args in puts-start (own (a .like) (now (a .xs))) 46 (c .at-most .result) (a .count) (now (a .buffer))
 
 add-number : tie.Need-add-number Inv-loop μ-loop
 add-number c = search needs
@@ -76,13 +76,13 @@ sub-result : tie.Need-sub-result Inv-loop μ-loop
 sub-result c = omega (arith, c .before .loop .inv .laid .0)
 
 same-length : tie.Need-same-length Inv-loop μ-loop
-same-length c = let t = c .before in puts-length _ 46 (t .before .at-most .result) _ (now (t .before .before .before .before .args .space)) (t .loop .inv)
+same-length c = let t = c .before in puts-length _ 46 (t .before .at-most .result) _ (now (t .before .before .before .before .args .buffer)) (t .loop .inv)
 
 returns : tie.Need-returns Inv-loop μ-loop
 returns c =
     let t = c .before in
     let a = t .before .before .before .before .args in
-    puts-all (own (a .like) (now (a .xs))) 46 (t .before .at-most .result) (a .count) (now (a .space)) (a .at) (t .loop .inv) (c .loop-test .left)
+    puts-all (own (a .like) (now (a .xs))) 46 (t .before .at-most .result) (a .count) (now (a .buffer)) (a .at) (t .loop .inv) (c .loop-test .left)
     (t .before .at-most .ensures)
 
 pub put-entries-spec : {M : Type 1} → statement M

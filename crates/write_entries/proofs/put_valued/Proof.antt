@@ -6,8 +6,8 @@ use mathlib.Core.Path.{_≡_, sym, ap, _∙_}
 use denote.Ref.{now}
 use borrow.Author.Tests.{ne-eqb}
 use Rattle.moves_text.proofs.Overlays.{none-put, put-as}
-use Rattle.canonical_text.specs.Spelling.{recordText}
-use Rattle.canonical_text.specs.WriterParts.{entryOf}
+use Rattle.canonical_text.specs.CanonicalText.{recordText}
+use Rattle.canonical_text.specs.WriterInternals.{entryOf}
 use borrow.Author.Needs.{needs}
 use Rattle.write_entries.proofs.put_valued.Statement.{statement}
 use Rattle.write_entries.proofs.put_valued.Tie as tie
@@ -16,7 +16,7 @@ returns : tie.Need-returns
 returns c =
     let a = c .before .before .args in
     let none : a .value ≡ 0 = search needs in
-    rw none (none-put (a .at) (now (a .space)), omega arith)
+    rw none (none-put (a .at) (now (a .buffer)), omega arith)
 
 entry-record-requires : tie.Need-entry-record-requires
 entry-record-requires c κs = search needs
@@ -34,7 +34,7 @@ returns-2 c =
     let a = made .before .before .before .args in
     let some : a .value ≢ 0 = search needs in
     rw (ne-eqb (a .value) 0 some) (
-      put-as (a .at) (now (a .space)) (ap recordText (made .entry-record .ensures) ∙ sym (append-nil (recordText (entryOf (a .like) (a .number) (a .value)))))
+      put-as (a .at) (now (a .buffer)) (ap recordText (made .entry-record .ensures) ∙ sym (append-nil (recordText (entryOf (a .like) (a .number) (a .value)))))
           (put .put-record .ensures .0),
       put .put-record .ensures .1,
     )

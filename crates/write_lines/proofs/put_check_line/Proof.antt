@@ -47,12 +47,12 @@ returns c =
     let letter = number .before .before .before .before in
     let cut = letter .before .before .before in
     let a = cut .before .before .args in
-    let space = now (a .space) in
+    let buffer = now (a .buffer) in
     let from = cut .at-most .result in
-    let u = field-then from (quoted "Q\t") space (a .number) tab (ap (λ k. from + k) (letter .put-text .ensures .0), letter .put-text .ensures .1) (number .put-field .ensures .0) in
-    let v = field-then from _ space (a .first) tab (u) (first .put-field2 .ensures .0) in
-    let w = field-then from _ space (a .second) lineEnd (v) (second .put-field3 .ensures .0) in
-    laid-from (a .at) (checkLine (a .number) (a .first) (a .second)) space (cut .at-most .ensures) (simp append-assoc at w)
+    let u = field-then from (quoted "Q\t") buffer (a .number) tab (ap (λ k. from + k) (letter .put-text .ensures .0), letter .put-text .ensures .1) (number .put-field .ensures .0) in
+    let v = field-then from _ buffer (a .first) tab (u) (first .put-field2 .ensures .0) in
+    let w = field-then from _ buffer (a .second) lineEnd (v) (second .put-field3 .ensures .0) in
+    laid-from (a .at) (checkLine (a .number) (a .first) (a .second)) buffer (cut .at-most .ensures) (simp append-assoc at w)
 
 pub put-check-line-spec : {M : Type 1} → statement M
 put-check-line-spec =

@@ -38,13 +38,13 @@ returns c =
     let ordinal = number .before .before .before .before in
     let cut = ordinal .before .before in
     let a = cut .before .before .args in
-    let space = now (a .space) in
+    let buffer = now (a .buffer) in
     let from = cut .at-most .result in
-    let u = field-then from [] space (a .ordinal) tab (none-laid from space) (ordinal .put-field .ensures .0) in
-    let v = field-then from _ space (a .number) tab (u) (number .put-field2 .ensures .0) in
-    let w = field-then from _ space (a .place) tab (v) (place .put-field3 .ensures .0) in
-    let x = field-then from _ space (a .active) lineEnd (w) (active .put-field4 .ensures .0) in
-    laid-from (a .at) (eventLine (a .ordinal) (a .number) (a .place) (a .active)) space (cut .at-most .ensures) (simp append-assoc at x)
+    let u = field-then from [] buffer (a .ordinal) tab (none-laid from buffer) (ordinal .put-field .ensures .0) in
+    let v = field-then from _ buffer (a .number) tab (u) (number .put-field2 .ensures .0) in
+    let w = field-then from _ buffer (a .place) tab (v) (place .put-field3 .ensures .0) in
+    let x = field-then from _ buffer (a .active) lineEnd (w) (active .put-field4 .ensures .0) in
+    laid-from (a .at) (eventLine (a .ordinal) (a .number) (a .place) (a .active)) buffer (cut .at-most .ensures) (simp append-assoc at x)
 
 pub put-event-line-spec : {M : Type 1} → statement M
 put-event-line-spec =

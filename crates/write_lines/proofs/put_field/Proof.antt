@@ -5,7 +5,7 @@ use mathlib.Core.List.{[], _∷_}
 use mathlib.Core.Path.{ap}
 use denote.Ref.{now}
 use borrow.Author.Needs.{needs}
-use Rattle.moves_text.specs.Written.{decimal}
+use Rattle.moves_text.specs.Decimals.{decimal}
 use Rattle.moves_text.proofs.Decimals.{decimal-short}
 use Rattle.moves_text.proofs.Overlays.{laid-then}
 use Rattle.write_lines.proofs.put_field.Statement.{statement}
@@ -45,7 +45,7 @@ returns c =
     let number = numbered .put-number .ensures in
     let byte = put .put-text .ensures in
     let w =
-    laid-then (a .at) (decimal (a .n)) (a .after ∷ []) (now (a .space)) (ap (λ k. a .at + k) (number .0), number .1)
+    laid-then (a .at) (decimal (a .n)) (a .after ∷ []) (now (a .buffer)) (ap (λ k. a .at + k) (number .0), number .1)
     (ap (λ k. a .at + numbered .put-number .result + k) (byte .0), byte .1) in
     (w, omega (arith, few numbered, byte .0))
 

@@ -3,7 +3,7 @@ use mathlib.Core.List.{List}
 use mathlib.Core.Path.{_≡_, _∙_}
 use lib.ListN.{take}
 use borrow.Author.Needs.{needs}
-use Rattle.moves_text.specs.Written.{decimal}
+use Rattle.moves_text.specs.Decimals.{decimal}
 use Rattle.moves_text.proofs.Decimals.{fewest-digits}
 use Rattle.write_lines.proofs.put_number.Statement.{statement}
 use Rattle.write_lines.proofs.put_number.Tie as tie

@@ -43,11 +43,11 @@ returns c =
     let letter = number .before .before .before .before in
     let cut = letter .before .before .before in
     let a = cut .before .before .args in
-    let space = now (a .space) in
+    let buffer = now (a .buffer) in
     let from = cut .at-most .result in
-    let u = field-then from (quoted "P\t") space (a .number) tab (ap (λ k. from + k) (letter .put-text .ensures .0), letter .put-text .ensures .1) (number .put-field .ensures .0) in
-    let v = field-then from _ space (a .line) lineEnd (u) (line .put-field2 .ensures .0) in
-    laid-from (a .at) (planLine (a .number) (a .line)) space (cut .at-most .ensures) (simp append-assoc at v)
+    let u = field-then from (quoted "P\t") buffer (a .number) tab (ap (λ k. from + k) (letter .put-text .ensures .0), letter .put-text .ensures .1) (number .put-field .ensures .0) in
+    let v = field-then from _ buffer (a .line) lineEnd (u) (line .put-field2 .ensures .0) in
+    laid-from (a .at) (planLine (a .number) (a .line)) buffer (cut .at-most .ensures) (simp append-assoc at v)
 
 pub put-plan-line-spec : {M : Type 1} → statement M
 put-plan-line-spec =

@@ -1,4 +1,4 @@
--- The text is laid over the part of the space that begins at the place, or over none of it.
+-- The text is laid over the part of the buffer that begins at the offset, or over none of it.
 use Prim.Native.Nat.{ℕ, _+_, _-_, min}
 use native.Mathlib.Omega.{arith}
 use mathlib.Core.List.{List, [], _++_, append-nil}
@@ -7,21 +7,21 @@ use denote.Ref.{now}
 use lib.ListN.{length, take, drop, length-drop, drop-of-length-le}
 use lib.Seq.{take-all}
 use borrow.Author.Needs.{needs}
-use Rattle.moves_text.specs.Space.{overlaid, overlaidAt}
+use Rattle.moves_text.specs.Buffer.{overlaid, overlaidAt}
 use Rattle.moves_text.proofs.Overlays.{overlaid-within}
 use Rattle.write_lines.proofs.put_text.Statement.{statement}
 use Rattle.write_lines.proofs.put_text.Tie as tie
 
-module _ (text space : List ℕ) (at from : ℕ) (cut : from ≡ min at (length space)) where
+module _ (text buffer : List ℕ) (at from : ℕ) (cut : from ≡ min at (length buffer)) where
   abbrev rest : ℕ
-  rest = length space - from
+  rest = length buffer - from
 
-  laid : (part : List ℕ) → part ≡ overlaid text (take rest (drop from space))
-      → take from space ++ (part ++ drop rest (drop from space)) ≡ overlaidAt at text space
+  laid : (part : List ℕ) → part ≡ overlaid text (take rest (drop from buffer))
+      → take from buffer ++ (part ++ drop rest (drop from buffer)) ≡ overlaidAt at text buffer
   laid part e =
-      let whole : take rest (drop from space) ≡ drop from space = take-all rest (drop from space) (omega (arith, length-drop from space)) in
-      let end : drop rest (drop from space) ≡ [] = drop-of-length-le (drop from space) {i = rest} (omega (arith, length-drop from space)) in
-      rw (end, append-nil part, e, whole, cut) (overlaid-within at text space)
+      let whole : take rest (drop from buffer) ≡ drop from buffer = take-all rest (drop from buffer) (omega (arith, length-drop from buffer)) in
+      let end : drop rest (drop from buffer) ≡ [] = drop-of-length-le (drop from buffer) {i = rest} (omega (arith, length-drop from buffer)) in
+      rw (end, append-nil part, e, whole, cut) (overlaid-within at text buffer)
 
 at-most-requires : tie.Need-at-most-requires
 at-most-requires c κs = search needs
@@ -47,7 +47,7 @@ returns c =
     let cut = put .before .before in
     let a = cut .before .before .before .args in (
       put .lay .ensures .0,
-      laid (now (a .text)) (now (a .space)) (a .at) (cut .at-most .result) (cut .at-most .ensures) (put .lay .last .1 .0) (put .lay .ensures .1),
+      laid (now (a .text)) (now (a .buffer)) (a .at) (cut .at-most .result) (cut .at-most .ensures) (put .lay .last .1 .0) (put .lay .ensures .1),
     )
 
 pub put-text-spec : {M : Type 1} → statement M

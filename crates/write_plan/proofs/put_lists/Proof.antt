@@ -9,8 +9,8 @@ use Rattle.model.specs.declared.Plan.{Plan}
 use Rattle.plan_bytes.specs.Over.{planRead}
 use Rattle.plan_text.specs.Meaning.{C}
 use Rattle.moves_text.proofs.Overlays.{none-put}
-use Rattle.canonical_text.specs.Spelling.{entryRecords, recordText, textOf}
-use Rattle.canonical_text.specs.WriterParts.{entryOf}
+use Rattle.canonical_text.specs.CanonicalText.{entryRecords, recordText, textOf}
+use Rattle.canonical_text.specs.WriterInternals.{entryOf}
 use Rattle.canonical_text.proofs.Puts.{Sections, section-more, sections-length}
 use borrow.Author.Needs.{needs}
 use Rattle.write_plan.proofs.put_lists.Statement.{statement}
@@ -28,24 +28,24 @@ module _ (c : tie.After-put-record) where
   abbrev begun : tie.Start
   begun = c .before .before .before .before
 
-  counts-put : Sections (lists begun) (now (begun .args .space)) 1 (c .put-record .result) (c .put-record .last .1 .0)
+  counts-put : Sections (lists begun) (now (begun .args .buffer)) 1 (c .put-record .result) (c .put-record .last .1 .0)
   unfolding planRead
   counts-put =
       let a = begun .args in
       let counts = C (a .t1 .resources) (a .t1 .types) (a .t1 .rows) in
       rw zero-add at
-      (section-more (lists begun) (now (a .space)) 0 (none-put 0 (now (a .space)))
+      (section-more (lists begun) (now (a .buffer)) 0 (none-put 0 (now (a .buffer)))
       (ap recordText (c .before .before .counts-of .ensures) ∙ sym (append-nil (recordText counts))) (c .put-record .ensures .0))
 
 module _ (c : tie.After-put-entries) where
   abbrev counted : tie.After-put-record
   counted = c .before .before .before .before .before .before .before .before
 
-  capacities-put : Sections (lists (begun counted)) (now (begun counted .args .space)) 2 (counted .put-record .result + c .put-entries .result) (c .put-entries .last .1 .1 .1 .0)
+  capacities-put : Sections (lists (begun counted)) (now (begun counted .args .buffer)) 2 (counted .put-record .result + c .put-entries .result) (c .put-entries .last .1 .1 .1 .0)
   unfolding planRead
   capacities-put =
       let a = begun counted .args in
-      section-more (lists (begun counted)) (now (a .space)) 1 (counts-put counted)
+      section-more (lists (begun counted)) (now (a .buffer)) 1 (counts-put counted)
       (ap (λ q. textOf (entryRecords (entryOf q) (a .t1 .resources) (a .t1 .capacity))) (c .before .before .before .before .before .records-of .ensures)) (c .put-entries .ensures .0)
 
 module _ (c : tie.After-put-entries2) where
@@ -53,12 +53,12 @@ module _ (c : tie.After-put-entries2) where
   listed = c .before .before .before .before .before .before .before .before
 
   lengths-put : let s = begun (counted listed) in
-      Sections (lists s) (now (s .args .space)) 3 (counted listed .put-record .result + listed .put-entries .result + c .put-entries2 .result)
+      Sections (lists s) (now (s .args .buffer)) 3 (counted listed .put-record .result + listed .put-entries .result + c .put-entries2 .result)
       (c .put-entries2 .last .1 .1 .1 .0)
   unfolding planRead
   lengths-put =
       let a = begun (counted listed) .args in
-      section-more (lists (begun (counted listed))) (now (a .space)) 2 (capacities-put listed)
+      section-more (lists (begun (counted listed))) (now (a .buffer)) 2 (capacities-put listed)
       (ap (λ q. textOf (entryRecords (entryOf q) (a .t1 .types) (a .t1 .lengths))) (c .before .before .before .before .before .records-of2 .ensures)) (c .put-entries2 .ensures .0)
 
   few : counted listed .put-record .result + listed .put-entries .result + c .put-entries2 .result ≤ 23506
@@ -110,7 +110,7 @@ same-length : tie.Need-same-length
 same-length c =
     let d = c .before .before in
     let s = begun (counted (listed d)) in
-    sections-length (lists s) (now (s .args .space)) 3 (lengths-put d)
+    sections-length (lists s) (now (s .args .buffer)) 3 (lengths-put d)
 
 returns : tie.Need-returns
 returns c = (lengths-put (c .before .before), few (c .before .before))

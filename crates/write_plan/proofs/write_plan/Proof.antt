@@ -7,7 +7,7 @@ use lib.ListN.{length}
 use borrow.Author.Tests.{not-true, not-false}
 use Rattle.plan_bytes.specs.Over.{planOver}
 use Rattle.moves_text.proofs.Overlays.{overlaid-whole}
-use Rattle.canonical_text.specs.Spelling.{spelling}
+use Rattle.canonical_text.specs.CanonicalText.{canonicalText}
 use Rattle.canonical_text.specs.declared.WriteAnswer.the-variants.{Written}
 use Rattle.canonical_text.proofs.WriteAnswers.{unsound-refused, long-refused, all-written, room-short, room-long, has-room}
 use borrow.Author.Needs.{needs}
@@ -25,11 +25,11 @@ returns c =
     let asked = c .before .before in
     let a = asked .before .before .before .args in
     let p = planOver (a .frame) (a .stages .now) in
-    let w = unsound-refused p (now (a .space)) (sym (asked .is-sound .ensures) ∙ not-true _ (c .before .if1 .taken)) in
+    let w = unsound-refused p (now (a .buffer)) (sym (asked .is-sound .ensures) ∙ not-true _ (c .before .if1 .taken)) in
     (c .refused .ensures ∙ w .0, w .1)
 
-spelling-length-requires : tie.Need-spelling-length-requires
-spelling-length-requires c κs = search needs
+canonical-length-requires : tie.Need-canonical-length-requires
+canonical-length-requires c κs = search needs
 
 refused-requires-2 : tie.Need-refused-requires-2
 refused-requires-2 c κs = search needs
@@ -41,8 +41,8 @@ returns-2 c =
     let a = asked .before .before .before .args in
     let p = planOver (a .frame) (a .stages .now) in
     let good = sym (asked .is-sound .ensures) ∙ not-false _ (measured .before .if1 .left) in
-    let none = room-short (length (spelling p)) (length (now (a .space))) (omega (arith, measured .spelling-length .ensures, c .before .if2 .taken)) in
-    let w = long-refused p (now (a .space)) good none in
+    let none = room-short (length (canonicalText p)) (length (now (a .buffer))) (omega (arith, measured .canonical-length .ensures, c .before .if2 .taken)) in
+    let w = long-refused p (now (a .buffer)) good none in
     (c .refused2 .ensures ∙ w .0, w .1)
 
 refused-requires-3 : tie.Need-refused-requires-3
@@ -55,13 +55,13 @@ returns-3 c =
     let a = asked .before .before .before .args in
     let p = planOver (a .frame) (a .stages .now) in
     let good = sym (asked .is-sound .ensures) ∙ not-false _ (measured .before .if1 .left) in
-    let none = room-long (length (spelling p)) (length (now (a .space))) (omega (arith, measured .spelling-length .ensures, c .before .before .if2 .left))
-    (omega (arith, measured .spelling-length .ensures, c .before .if3 .taken)) in
-    let w = long-refused p (now (a .space)) good none in
+    let none = room-long (length (canonicalText p)) (length (now (a .buffer))) (omega (arith, measured .canonical-length .ensures, c .before .before .if2 .left))
+    (omega (arith, measured .canonical-length .ensures, c .before .if3 .taken)) in
+    let w = long-refused p (now (a .buffer)) good none in
     (c .refused3 .ensures ∙ w .0, w .1)
 
-put-spelling-requires : tie.Need-put-spelling-requires
-put-spelling-requires c κs = search needs
+put-canonical-requires : tie.Need-put-canonical-requires
+put-canonical-requires c κs = search needs
 
 same-length : tie.Need-same-length
 same-length c = search needs
@@ -73,13 +73,13 @@ returns-4 c =
     let asked = measured .before .before in
     let a = asked .before .before .before .args in
     let p = planOver (a .frame) (a .stages .now) in
-    let size = measured .spelling-length .ensures in
+    let size = measured .canonical-length .ensures in
     let good = sym (asked .is-sound .ensures) ∙ not-false _ (measured .before .if1 .left) in
-    let fits : length (spelling p) ≤ length (now (a .space)) = omega (arith, size, put .before .before .before .if2 .left) in
-    let some = has-room (length (spelling p)) (length (now (a .space))) fits (omega (arith, size, put .before .before .if3 .left)) in
-    let w = all-written p (now (a .space)) good some in
-    let filled = overlaid-whole (spelling p) (now (a .space)) fits in
-    ((λ i. record { answer = Written; length = size i }) ∙ w .0, put .put-spelling .ensures .1 ∙ filled ∙ w .1)
+    let fits : length (canonicalText p) ≤ length (now (a .buffer)) = omega (arith, size, put .before .before .before .if2 .left) in
+    let some = has-room (length (canonicalText p)) (length (now (a .buffer))) fits (omega (arith, size, put .before .before .if3 .left)) in
+    let w = all-written p (now (a .buffer)) good some in
+    let filled = overlaid-whole (canonicalText p) (now (a .buffer)) fits in
+    ((λ i. record { answer = Written; length = size i }) ∙ w .0, put .put-canonical .ensures .1 ∙ filled ∙ w .1)
 
 pub write-plan-spec : {M : Type 1} → statement M
 write-plan-spec =
@@ -88,11 +88,11 @@ write-plan-spec =
     is-sound-requires
     refused-requires
     returns
-    spelling-length-requires
+    canonical-length-requires
     refused-requires-2
     returns-2
     refused-requires-3
     returns-3
-    put-spelling-requires
+    put-canonical-requires
     same-length
     returns-4)

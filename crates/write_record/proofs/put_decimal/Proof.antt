@@ -6,8 +6,8 @@ use mathlib.Core.Path.{_≡_, ap, _∙_}
 use denote.Ref.{now}
 use lib.ListN.{length, take}
 use borrow.Author.Needs.{needs}
-use Rattle.moves_text.specs.Written.{decimal}
-use Rattle.moves_text.specs.Space.{overlaidAt}
+use Rattle.moves_text.specs.Decimals.{decimal}
+use Rattle.moves_text.specs.Buffer.{overlaidAt}
 use Rattle.moves_text.proofs.Decimals.{decimal-short, fewest-digits}
 use Rattle.write_record.proofs.LineGrown.{laid-behind}
 use Rattle.write_record.proofs.put_decimal.Statement.{statement}

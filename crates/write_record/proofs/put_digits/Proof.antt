@@ -6,7 +6,7 @@ use mathlib.Core.Path.{_≡_, refl, sym, ap, _∙_}
 use denote.Ref.{now}
 use lib.ListN.{length, take, set, length-set}
 use borrow.Author.Needs.{needs}
-use Rattle.moves_text.specs.Written.{decimal}
+use Rattle.moves_text.specs.Decimals.{decimal}
 use Rattle.write_record.proofs.LineGrown.{pushed, pushed-two, pushed-three, one-digit, two-digits, three-digits}
 use Rattle.write_record.proofs.put_digits.Statement.{statement}
 use Rattle.write_record.proofs.put_digits.Tie as tie

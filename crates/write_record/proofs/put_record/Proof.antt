@@ -12,9 +12,9 @@ use Rattle.plan_text.specs.Lines.{lineEnd, tab}
 use Rattle.plan_text.specs.Records.{letters, layoutOf, numbersOf}
 use Rattle.plan_text.specs.declared.Record.{Record}
 use Rattle.plan_text.proofs.LineForm.{few-fields}
-use Rattle.moves_text.specs.Written.{decimal}
+use Rattle.moves_text.specs.Decimals.{decimal}
 use Rattle.moves_text.proofs.Overlays.{put-as}
-use Rattle.canonical_text.specs.Spelling.{letterOf, fieldsOf, recordText}
+use Rattle.canonical_text.specs.CanonicalText.{letterOf, fieldsOf, recordText}
 use Rattle.write_record.proofs.LineGrown.{pushed, tabbed, numbers-more, line-tabbed}
 use Rattle.write_record.proofs.put_record.Statement.{statement}
 use Rattle.write_record.proofs.put_record.Tie as tie
@@ -63,10 +63,10 @@ whole rec count line to i counted g all =
     ∙ line-tabbed (letterOf rec) (fieldsOf rec)
 
 abbrev Inv-loop : tie.InvT-loop
-Inv-loop space at section count numbers line₀ to₀ i₀ line to i = Grown section count numbers line to i
+Inv-loop buffer at section count numbers line₀ to₀ i₀ line to i = Grown section count numbers line to i
 
 abbrev μ-loop : tie.MeasureT-loop
-μ-loop space at section count numbers line₀ to₀ i₀ line to i = count - i
+μ-loop buffer at section count numbers line₀ to₀ i₀ line to i = count - i
 
 field-count-requires : tie.Need-field-count-requires Inv-loop μ-loop
 field-count-requires c κs = search needs
@@ -148,7 +148,7 @@ returns c =
     let a = left .before .before .before .before .before .args in
     let told = whole (a .rec) _ (l .line) (l .to) (l .i) (left .before .before .before .field-count .ensures) (l .inv) (left .loop-test .left) in
     let size = length-take-le (l .to + 1) (set (l .line) (l .to) lineEnd) (simp length-set (omega (arith, grown-short (l .inv)))) in
-    (put-as (a .at) (now (a .space)) told (put .put-text .ensures), omega (arith, put .put-text .ensures .0, size, grown-short (l .inv)))
+    (put-as (a .at) (now (a .buffer)) told (put .put-text .ensures), omega (arith, put .put-text .ensures .0, size, grown-short (l .inv)))
 
 pub put-record-spec : {M : Type 1} → statement M
 put-record-spec =

@@ -3,7 +3,7 @@ use mathlib.Core.Path.{ap}
 use denote.Ref.{now}
 use Rattle.plan_bytes.specs.Over.{planOver}
 use Rattle.moves_text.proofs.Overlays.{put-as}
-use Rattle.canonical_text.specs.Spelling.{textOf}
+use Rattle.canonical_text.specs.CanonicalText.{textOf}
 use borrow.Author.Needs.{needs}
 use Rattle.write_stages.proofs.StageRecords.{demands-told}
 use Rattle.write_stages.proofs.put_demands.Statement.{statement}
@@ -20,7 +20,7 @@ returns c =
     let put = c .before .before in
     let a = put .before .before .before .before .args in
     let told = ap textOf (demands-told (planOver (a .frame) (a .stages .now))) in
-    (put-as (a .at) (now (a .space)) told (put .put-stages .ensures .0), put .put-stages .ensures .1)
+    (put-as (a .at) (now (a .buffer)) told (put .put-stages .ensures .0), put .put-stages .ensures .1)
 
 pub put-demands-spec : {M : Type 1} → statement M
 put-demands-spec = tie.close (tie.spec put-stages-requires same-length returns)

@@ -7,7 +7,7 @@ use Rattle.model.specs.declared.Stage.{Stage}
 use Rattle.plan_bytes.proofs.Laid.{stage-lent}
 use Rattle.plan_text.specs.Meaning.{S, A}
 use Rattle.moves_text.proofs.Overlays.{none-put, put-as}
-use Rattle.canonical_text.specs.Spelling.{valued, entryRecords, textOf}
+use Rattle.canonical_text.specs.CanonicalText.{valued, entryRecords, textOf}
 use borrow.Author.Needs.{needs}
 use Rattle.write_stages.specs.StageRecords.{stageRead}
 use Rattle.write_stages.proofs.StageRecords.{of-demands, of-weight, records-beyond}
@@ -30,13 +30,13 @@ returns c =
     let a = weighed .before .before .before .before .args in
     let s = stageRead (a .stages .now) (a .index) in
     let told = ap (λ v. valued v (A (a .row) (a .kind) (a .stage))) (weighed .weight-in .ensures) ∙ sym (of-weight (a .resources) (a .row) (a .kind) (a .stage) s (weighed .before .if1 .taken)) in
-    (put-as (a .at) (now (a .space)) (ap textOf told) (put .put-valued .ensures .0), omega (arith, put .put-valued .ensures .1))
+    (put-as (a .at) (now (a .buffer)) (ap textOf told) (put .put-valued .ensures .0), omega (arith, put .put-valued .ensures .1))
 
 returns-2 : tie.Need-returns-2
 returns-2 c =
     let a = c .before .before .before .before .args in
     let none = records-beyond (a .stages .now) (a .resources) (a .row) (a .kind) (a .stage) (a .index) (c .if2 .taken) in
-    (put-as (a .at) (now (a .space)) (ap textOf (sym none)) (none-put (a .at) (now (a .space))), omega arith)
+    (put-as (a .at) (now (a .buffer)) (ap textOf (sym none)) (none-put (a .at) (now (a .buffer))), omega arith)
 
 mul-from : tie.Need-mul-from
 mul-from c = search needs
@@ -68,7 +68,7 @@ returns-3 c =
     let s = stageRead (a .stages .now) (a .index) in
     let lent = ap (λ (x : Stage). entryRecords (S (a .kind) (a .stage)) (a .resources) (x .demand)) (sym (stage-lent (a .stages .now) (a .index) noStage (omega arith))) in
     let told = lent ∙ sym (of-demands (a .resources) (a .row) (a .kind) (a .stage) s (there .before .if1 .left)) in
-    (put-as (a .at) (now (a .space)) (ap textOf told) (put .put-entries .ensures .0), omega (arith, put .put-entries .ensures .1, there .before .before .before .before .pre))
+    (put-as (a .at) (now (a .buffer)) (ap textOf told) (put .put-entries .ensures .0), omega (arith, put .put-entries .ensures .1, there .before .before .before .before .pre))
 
 pub put-stage-spec : {M : Type 1} → statement M
 put-stage-spec =

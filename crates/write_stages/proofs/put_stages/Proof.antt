@@ -8,7 +8,7 @@ use Rattle.model.specs.Numbers.{at, sumTo}
 use Rattle.plan_bytes.specs.Over.{planRead, planOver}
 use Rattle.plan_text.specs.declared.Record.{Record}
 use Rattle.moves_text.proofs.Overlays.{none-put, put-as}
-use Rattle.canonical_text.specs.Spelling.{textOf}
+use Rattle.canonical_text.specs.CanonicalText.{textOf}
 use Rattle.canonical_text.proofs.Puts.{Puts, puts-start, puts-more, puts-length, puts-all}
 use borrow.Author.Needs.{needs}
 use Rattle.write_stages.specs.StageRecords.{typeRecords}
@@ -21,13 +21,13 @@ abbrev most : ℕ
 most = 50379966370350
 
 abbrev Inv-loop : tie.InvT-loop
-Inv-loop stages row space₀ at₀ frame from types resources to₀ first₀ t₀ space to first t =
-    Puts (typeRecords (planOver frame stages) row) most from types t to space₀ space
+Inv-loop stages row buffer₀ at₀ frame from types resources to₀ first₀ t₀ buffer to first t =
+    Puts (typeRecords (planOver frame stages) row) most from types t to buffer₀ buffer
     × (first ≡ sumTo t (at (frame .lengths)))
     × (first ≤ 4294967295 * t)
 
 abbrev μ-loop : tie.MeasureT-loop
-μ-loop stages row space₀ at₀ frame from types resources to₀ first₀ t₀ space to first t = types - t
+μ-loop stages row buffer₀ at₀ frame from types resources to₀ first₀ t₀ buffer to first t = types - t
 
 -- at the head of the loop
 module _ (t : tie.At-loop Inv-loop μ-loop) where
@@ -47,7 +47,7 @@ returns : tie.Need-returns Inv-loop μ-loop
 returns c =
     let a = c .before .before .before .args in
     let none = stages-none (a .t1) (a .stages .now) (a .row) (c .if1 .taken) in
-    (put-as (a .at) (now (a .space)) (ap textOf (sym none)) (none-put (a .at) (now (a .space))), omega arith)
+    (put-as (a .at) (now (a .buffer)) (ap textOf (sym none)) (none-put (a .at) (now (a .buffer))), omega arith)
 
 at-most-requires : tie.Need-at-most-requires Inv-loop μ-loop
 at-most-requires c κs = search needs
@@ -61,7 +61,7 @@ cast-resources c = search needs
 loop-holds : tie.Need-loop-holds Inv-loop μ-loop
 loop-holds c =
     let a = c .before .before .before .before .args in
-    (puts-start (typeRecords (planOver (a .t1) (a .stages .now)) (a .row)) most (c .at-most .result) (a .t1 .types) (now (a .space)), refl, omega arith)
+    (puts-start (typeRecords (planOver (a .t1) (a .stages .now)) (a .row)) most (c .at-most .result) (a .t1 .types) (now (a .buffer)), refl, omega arith)
 
 add-kind : tie.Need-add-kind Inv-loop μ-loop
 add-kind c = search needs
@@ -99,8 +99,8 @@ loop-again c =
     let a = begun t .args in
     let l = t .loop in
     let told = type-told (a .t1) (a .stages .now) (a .row) (l .t) (l .first) (read .length-of .result) (long t .if1 .left) (test .loop-test .taken) (l .inv .1) (read .length-of .ensures) in (
-      puts-more (own t) most (t .before .at-most .result) (a .t1 .types) (now (a .space)) (l .inv .0) (test .loop-test .taken)
-          (put-as (l .to) (l .space) (ap textOf told) (d .put-type .ensures .0)) (d .put-type .ensures .1),
+      puts-more (own t) most (t .before .at-most .result) (a .t1 .types) (now (a .buffer)) (l .inv .0) (test .loop-test .taken)
+          (put-as (l .to) (l .buffer) (ap textOf told) (d .put-type .ensures .0)) (d .put-type .ensures .1),
       first-next (at (a .t1 .lengths)) (l .t) (l .inv .1) (read .length-of .ensures),
       omega (arith, l .inv .2, read),
     )
@@ -109,14 +109,14 @@ sub-result : tie.Need-sub-result Inv-loop μ-loop
 sub-result c = omega (arith, c .before .loop .inv .0 .laid .0)
 
 same-length : tie.Need-same-length Inv-loop μ-loop
-same-length c = let t = c .before in puts-length (own t) most (t .before .at-most .result) _ (now (begun t .args .space)) (t .loop .inv .0)
+same-length c = let t = c .before in puts-length (own t) most (t .before .at-most .result) _ (now (begun t .args .buffer)) (t .loop .inv .0)
 
 returns-2 : tie.Need-returns-2 Inv-loop μ-loop
 unfolding planOver planRead
 returns-2 c =
     let t = c .before in
     let a = begun t .args in
-    let whole = puts-all (own t) most (t .before .at-most .result) (a .t1 .types) (now (a .space)) (a .at) (t .loop .inv .0) (c .loop-test .left) (t .before .at-most .ensures) in
+    let whole = puts-all (own t) most (t .before .at-most .result) (a .t1 .types) (now (a .buffer)) (a .at) (t .loop .inv .0) (c .loop-test .left) (t .before .at-most .ensures) in
     (whole .0, omega (arith, whole .1, few-types t))
 
 pub put-stages-spec : {M : Type 1} → statement M

@@ -6,7 +6,7 @@ use mathlib.Core.Path.{_≡_, ap}
 use denote.Ref.{now}
 use Rattle.plan_text.specs.declared.Record.{Record}
 use Rattle.moves_text.proofs.Overlays.{put-as}
-use Rattle.canonical_text.specs.Spelling.{textOf}
+use Rattle.canonical_text.specs.CanonicalText.{textOf}
 use Rattle.canonical_text.proofs.Puts.{Puts, puts-start, puts-more, puts-length, puts-all}
 use borrow.Author.Needs.{needs}
 use Rattle.write_stages.specs.StageRecords.{stageRead, stageRecords}
@@ -17,10 +17,10 @@ abbrev own : List ℕ → ℕ → ℕ → ℕ → ℕ → ℕ → List Record
 own stages resources row kind first k = stageRecords resources row kind k (stageRead stages (first + (k - 1)))
 
 abbrev Inv-loop : tie.InvT-loop
-Inv-loop row kind first count resources stages space₀ at from to₀ k₀ space to k = Puts (own stages resources row kind first) 11730 from count k to space₀ space
+Inv-loop row kind first count resources stages buffer₀ at from to₀ k₀ buffer to k = Puts (own stages resources row kind first) 11730 from count k to buffer₀ buffer
 
 abbrev μ-loop : tie.MeasureT-loop
-μ-loop row kind first count resources stages space₀ at from to₀ k₀ space to k = count - k
+μ-loop row kind first count resources stages buffer₀ at from to₀ k₀ buffer to k = count - k
 
 -- at the head of the loop
 module _ (t : tie.At-loop Inv-loop μ-loop) where
@@ -36,7 +36,7 @@ at-most-requires c κs = search needs
 loop-holds : tie.Need-loop-holds Inv-loop μ-loop
 loop-holds c =
     let a = c .before .before .before .args in
-    puts-start (own (a .stages .now) (a .resources) (a .row) (a .kind) (a .first)) 11730 (c .at-most .result) (a .count) (now (a .space))
+    puts-start (own (a .stages .now) (a .resources) (a .row) (a .kind) (a .first)) 11730 (c .at-most .result) (a .count) (now (a .buffer))
 
 add-stage : tie.Need-add-stage Inv-loop μ-loop
 add-stage c = search needs
@@ -70,20 +70,20 @@ loop-again c =
     let l = t .loop in
     let e : a .first + l .k ≡ a .first + (l .k + 1 - 1) = omega arith in
     let told = ap (λ i. textOf (stageRecords (a .resources) (a .row) (a .kind) (l .k + 1) (stageRead (a .stages .now) i))) e in
-    puts-more (own-here t) 11730 (t .before .at-most .result) (a .count) (now (a .space)) (l .inv) (d .before .before .loop-test .taken)
-    (put-as (l .to) (l .space) told (d .put-stage .ensures .0)) (d .put-stage .ensures .1)
+    puts-more (own-here t) 11730 (t .before .at-most .result) (a .count) (now (a .buffer)) (l .inv) (d .before .before .loop-test .taken)
+    (put-as (l .to) (l .buffer) told (d .put-stage .ensures .0)) (d .put-stage .ensures .1)
 
 sub-result : tie.Need-sub-result Inv-loop μ-loop
 sub-result c = omega (arith, c .before .loop .inv .laid .0)
 
 same-length : tie.Need-same-length Inv-loop μ-loop
-same-length c = let t = c .before in puts-length (own-here t) 11730 (t .before .at-most .result) _ (now (begun t .args .space)) (t .loop .inv)
+same-length c = let t = c .before in puts-length (own-here t) 11730 (t .before .at-most .result) _ (now (begun t .args .buffer)) (t .loop .inv)
 
 returns : tie.Need-returns Inv-loop μ-loop
 returns c =
     let t = c .before in
     let a = begun t .args in
-    let whole = puts-all (own-here t) 11730 (t .before .at-most .result) (a .count) (now (a .space)) (a .at) (t .loop .inv) (c .loop-test .left) (t .before .at-most .ensures) in
+    let whole = puts-all (own-here t) 11730 (t .before .at-most .result) (a .count) (now (a .buffer)) (a .at) (t .loop .inv) (c .loop-test .left) (t .before .at-most .ensures) in
     (whole .0, omega (arith, whole .1))
 
 pub put-type-spec : {M : Type 1} → statement M

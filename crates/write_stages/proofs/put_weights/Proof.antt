@@ -8,7 +8,7 @@ use Rattle.model.specs.declared.Plan.{Plan}
 use Rattle.plan_bytes.specs.Over.{planRead, planOver}
 use Rattle.plan_text.specs.declared.Record.{Record}
 use Rattle.moves_text.proofs.Overlays.{put-as}
-use Rattle.canonical_text.specs.Spelling.{listTo, typeWeights, textOf}
+use Rattle.canonical_text.specs.CanonicalText.{listTo, typeWeights, textOf}
 use Rattle.canonical_text.proofs.Puts.{Puts, puts-start, puts-more, puts-length, puts-all}
 use borrow.Author.Needs.{needs}
 use Rattle.write_stages.proofs.StageRecords.{weights-told}
@@ -23,10 +23,10 @@ abbrev most : ℕ
 most = 12846891424439250
 
 abbrev Inv-loop : tie.InvT-loop
-Inv-loop frame stages space₀ at from rows to₀ w₀ space to w = Puts (rowOf (planOver frame stages)) most from rows w to space₀ space
+Inv-loop frame stages buffer₀ at from rows to₀ w₀ buffer to w = Puts (rowOf (planOver frame stages)) most from rows w to buffer₀ buffer
 
 abbrev μ-loop : tie.MeasureT-loop
-μ-loop frame stages space₀ at from rows to₀ w₀ space to w = rows - w
+μ-loop frame stages buffer₀ at from rows to₀ w₀ buffer to w = rows - w
 
 -- at the head of the loop
 module _ (t : tie.At-loop Inv-loop μ-loop) where
@@ -51,7 +51,7 @@ cast-rows c = search needs
 loop-holds : tie.Need-loop-holds Inv-loop μ-loop
 loop-holds c =
     let a = c .before .before .before .before .args in
-    puts-start (rowOf (planOver (a .frame) (a .stages .now))) most (c .before .at-most .result) (a .frame .rows) (now (a .space))
+    puts-start (rowOf (planOver (a .frame) (a .stages .now))) most (c .before .at-most .result) (a .frame .rows) (now (a .buffer))
 
 add-row : tie.Need-add-row Inv-loop μ-loop
 add-row c = search needs
@@ -78,21 +78,21 @@ loop-again c =
     let a = begun t .args in
     let l = t .loop in
     let told = ap textOf (weights-told (planOver (a .frame) (a .stages .now)) (l .w)) in
-    puts-more (own t) most (cut t .at-most .result) (a .frame .rows) (now (a .space)) (l .inv) (d .before .before .loop-test .taken)
-    (put-as (l .to) (l .space) told (d .put-stages .ensures .0)) (d .put-stages .ensures .1)
+    puts-more (own t) most (cut t .at-most .result) (a .frame .rows) (now (a .buffer)) (l .inv) (d .before .before .loop-test .taken)
+    (put-as (l .to) (l .buffer) told (d .put-stages .ensures .0)) (d .put-stages .ensures .1)
 
 sub-result : tie.Need-sub-result Inv-loop μ-loop
 sub-result c = omega (arith, c .before .loop .inv .laid .0)
 
 same-length : tie.Need-same-length Inv-loop μ-loop
-same-length c = let t = c .before in puts-length (own t) most (cut t .at-most .result) _ (now (begun t .args .space)) (t .loop .inv)
+same-length c = let t = c .before in puts-length (own t) most (cut t .at-most .result) _ (now (begun t .args .buffer)) (t .loop .inv)
 
 returns : tie.Need-returns Inv-loop μ-loop
 unfolding planOver planRead
 returns c =
     let t = c .before in
     let a = begun t .args in
-    let whole = puts-all (own t) most (cut t .at-most .result) (a .frame .rows) (now (a .space)) (a .at) (t .loop .inv) (c .loop-test .left) (cut t .at-most .ensures) in
+    let whole = puts-all (own t) most (cut t .at-most .result) (a .frame .rows) (now (a .buffer)) (a .at) (t .loop .inv) (c .loop-test .left) (cut t .at-most .ensures) in
     (whole .0, omega (arith, whole .1, few-rows t))
 
 pub put-weights-spec : {M : Type 1} → statement M

@@ -1,7 +1,7 @@
 -- The answer is that of the first two questions, asked of the list's numbers.
 use mathlib.Core.Path.{ap, _∙_}
 use Rattle.plan_bytes.specs.Over.{planOver}
-use Rattle.internals.specs.Parts.{agreed}
+use Rattle.internals.specs.Internals.{agreed}
 use Rattle.internals.specs.declared.Agreement.{Agreement}
 use Rattle.internals.proofs.JobsLaid.{over-laid}
 use Rattle.internals.proofs.FirstQuestions.{agreed-answer}

@@ -4,7 +4,7 @@ use native.Mathlib.Omega.{arith}
 use mathlib.Core.Path.{_≡_}
 use lib.ListN.{getD}
 use denote.Ref.{now}
-use Rattle.cell_layout.proofs.Entries.{number-of-two}
+use Rattle.cell_layout.proofs.EntryBytes.{number-of-two}
 use borrow.Author.Needs.{needs}
 use Rattle.cell_reads.proofs.entries.bound_at.Statement.{statement}
 use Rattle.cell_reads.proofs.entries.bound_at.Tie as tie

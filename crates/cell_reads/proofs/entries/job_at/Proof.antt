@@ -2,8 +2,8 @@
 use native.Mathlib.Omega.{arith}
 use mathlib.Core.Path.{sym, ap, _∙_}
 use denote.Ref.{now}
-use Rattle.cell_layout.specs.Layout.{numberOf}
-use Rattle.cell_layout.proofs.Entries.{part-first, part-of-part}
+use Rattle.cell_layout.specs.Layout.{valueOf}
+use Rattle.cell_layout.proofs.EntryBytes.{part-first, part-of-part}
 use borrow.Author.Needs.{needs}
 use Rattle.cell_reads.proofs.entries.job_at.Statement.{statement}
 use Rattle.cell_reads.proofs.entries.job_at.Tie as tie
@@ -26,9 +26,9 @@ number-at-requires-3 c κs = search needs
 returns : tie.Need-returns
 returns c =
     let a = c .before .before .before .before .args in
-    let number = c .before .before .number-at .ensures ∙ ap numberOf (sym (part-first 4 (a .at) 12 (now (a .jobs)) (omega arith))) in
-    let kind = c .before .number-at2 .ensures ∙ ap numberOf (sym (part-of-part 4 4 (a .at) 12 (now (a .jobs)) (omega arith))) in
-    let stage = c .number-at3 .ensures ∙ ap numberOf (sym (part-of-part 8 4 (a .at) 12 (now (a .jobs)) (omega arith))) in
+    let number = c .before .before .number-at .ensures ∙ ap valueOf (sym (part-first 4 (a .at) 12 (now (a .jobs)) (omega arith))) in
+    let kind = c .before .number-at2 .ensures ∙ ap valueOf (sym (part-of-part 4 4 (a .at) 12 (now (a .jobs)) (omega arith))) in
+    let stage = c .number-at3 .ensures ∙ ap valueOf (sym (part-of-part 8 4 (a .at) 12 (now (a .jobs)) (omega arith))) in
     λ i. record { number = number i; kind = kind i; stage = stage i }
 
 pub job-at-spec : {M : Type 1} → statement M

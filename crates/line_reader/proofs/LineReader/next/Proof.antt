@@ -1,5 +1,5 @@
 -- `LineReader::next` meets its contract: a walk of its MIR, by hand. The borrow is opened, the slice inside is passed to `line_at` and to `part_of`,
--- the number is set to the next place, and the borrow is closed.
+-- the number is set to the next offset, and the borrow is closed.
 -- The slice is Copy: what it owns is had three times, once for each call and once to close the borrow with.
 -- All that the proof knows of the two callees is that each meets its contract.
 use mathlib.Core.Path.{_≡_, refl, ap, subst, _∙_}
@@ -46,9 +46,9 @@ use denote.Triple.Entry.{onEntry}
 use denote.Triple.Spec.{Meets, tripleOf}
 use denote.Triple.Table.{entered, cited}
 use denote.Triple.Walked.{says, Stays, stay-ref, walkOf, goes-ref, Walks, ends-at, walked, walk-meets}
-use Rattle.plan_text.specs.LineReading.{placeFrom}
+use Rattle.plan_text.specs.LineReading.{spanFrom}
 use Rattle.plan_text.specs.TextParts.{IsPart}
-use Rattle.plan_text.specs.declared.LinePlace.{LinePlace}
+use Rattle.plan_text.specs.declared.LineSpan.{LineSpan}
 use Rattle.line_reader.specs.LineReads.{Reads}
 use Rattle.line_reader.specs.declared.LineReader.{LineReader}
 use Rattle.line_reader.specs.declared.TextLine.{TextLine}
@@ -56,8 +56,8 @@ use Rattle.line_reader.proofs.LineReader as T
 use Rattle.line_reader.proofs.LineReader.Laws as T′
 use Rattle.line_reader.proofs.TextLine as R
 use Rattle.line_reader.proofs.TextLine.Laws as R′
-use Rattle.plan_text.proofs.LinePlace as P
-use Rattle.plan_text.proofs.LinePlace.Laws as P′
+use Rattle.plan_text.proofs.LineSpan as P
+use Rattle.plan_text.proofs.LineSpan.Laws as P′
 use Rattle.read_lines.proofs.line_at as line-at
 use Rattle.read_lines.proofs.line_at.Symbol as line-at-def
 use Rattle.read_lines.proofs.line_at.Symbol.{name as #line-at}
@@ -117,12 +117,12 @@ module _ {M : Type 1} (𝓤 : URA M) (H : Heap 𝓤) (A : Atoms 𝓤) (W : Given
   abbrev v : Val
   v = sliceVal (h .text .ptr) (length (h .text .now))
 
-  -- the reader at another place
+  -- the reader at another offset
   abbrev moved : ℕ → LineReader
   moved n = record { text = h .text; at = n }
 
-  -- the line of a part of the text and a place
-  abbrev lined : RefT (List ℕ) → LinePlace → TextLine
+  -- the line of a part of the text and an offset
+  abbrev lined : RefT (List ℕ) → LineSpan → TextLine
   lined r p = record { bytes = r; ended = p .ended; over = p .over }
 
   abbrev Post : Val → SProp 𝓤
@@ -152,28 +152,28 @@ module _ {M : Type 1} (𝓤 : URA M) (H : Heap 𝓤) (A : Atoms 𝓤) (W : Given
       qed W (‵ (Slice (h .text)) ∷ (‵ (flft κ′ q′) ⊛ ‵ ftrue) ∷ []) ∵ nothing ! $ owned ! usize (Is usize) (uint-makes 𝓤 H A W w64) (h .at) _ (refl, fits) $ fjoin ! $
       move ! (1 ∷ 0 ∷ []) $ fjoin ! $ move ! (1 ∷ 0 ∷ []) $ join ! $ frame ! $ done !
 
-  abbrev found : LinePlace
-  found = placeFrom (now (h .text)) (h .at)
+  abbrev found : LineSpan
+  found = spanFrom (now (h .text)) (h .at)
 
-  line-said : (p : LinePlace)
+  line-said : (p : LineSpan)
       → ent 𝓤 (ensured 𝓤 H A line-at.ended (line-at.clauses 𝓤 H A at-mem run) (κ′, tt) (h .text, (h .at, tt)) tt p) (fact 𝓤 (p ≡ found))
   line-said p = exE 𝓤 _ (λ ws. snd∗ 𝓤 (sem 𝓤 H A (lasts line-at.ended (κ′, tt) (h .text, (h .at, tt)) ws)) (fact 𝓤 (p ≡ found)))
 
-  -- the call of `part_of`, up to the end of the place p
-  abbrev to-part : LinePlace → PartOf 𝓤 H A at-mem run .Ghost
+  -- the call of `part_of`, up to the end of the span p
+  abbrev to-part : LineSpan → PartOf 𝓤 H A at-mem run .Ghost
   to-part p = (((κ′, tt), (q′, tt), tt, (h .text, (h .at, (p .end, tt))), (v ∷ [], (vint w64 (h .at) ∷ [], (vint w64 (p .end) ∷ [], tt)))), tt)
 
-  goes-part : (p : LinePlace) → h .at < 2 ^ 64 → p .end < 2 ^ 64
+  goes-part : (p : LineSpan) → h .at < 2 ^ 64 → p .end < 2 ^ 64
       → ent 𝓤 (⋆ 𝓤 H A (‵ (Slice (h .text)) ∷ (‵ (flft κ′ q′) ⊛ ‵ ftrue) ∷ [])) (PartOf 𝓤 H A at-mem run .pre (to-part p))
   goes-part p fits end-fits =
       qed W (‵ (Slice (h .text)) ∷ (‵ (flft κ′ q′) ⊛ ‵ ftrue) ∷ []) ∵
       nothing ! $ owned ! usize (Is usize) (uint-makes 𝓤 H A W w64) (p .end) _ (refl, end-fits) $ fjoin ! $
       owned ! usize (Is usize) (uint-makes 𝓤 H A W w64) (h .at) _ (refl, fits) $ fjoin ! $ move ! (1 ∷ 0 ∷ []) $ fjoin ! $ move ! (1 ∷ 0 ∷ []) $ join ! $ frame ! $ done !
 
-  abbrev PartSaid : LinePlace → RefT (List ℕ) → Type 0
+  abbrev PartSaid : LineSpan → RefT (List ℕ) → Type 0
   PartSaid p r = IsPart (h .text) (h .at) (p .end) r
 
-  part-said : (p : LinePlace) (r : RefT (List ℕ))
+  part-said : (p : LineSpan) (r : RefT (List ℕ))
       → ent 𝓤 (ensured 𝓤 H A part-of.ended (part-of.clauses 𝓤 H A at-mem run) (κ′, tt) (h .text, (h .at, (p .end, tt))) tt r) (fact 𝓤 (PartSaid p r))
   part-said p r = exE 𝓤 _ (λ ws. snd∗ 𝓤 (sem 𝓤 H A (lasts part-of.ended (κ′, tt) (h .text, (h .at, (p .end, tt))) ws)) (fact 𝓤 (PartSaid p r)))
 
@@ -183,7 +183,7 @@ module _ {M : Type 1} (𝓤 : URA M) (H : Heap 𝓤) (A : Atoms 𝓤) (W : Given
       qed W (‵ (Own h) ∷ []) ∵ owned ! usize (Is usize) (uint-makes 𝓤 H A W w64) n _ (refl, fits) $ move ! (1 ∷ 0 ∷ []) $ by ! (own-put 𝓤 H A W D L 1 vd n (mach h))
 
   -- what the line owns: the slice's part, and the facts of the two bools
-  whole-line : (r : RefT (List ℕ)) (p : LinePlace) → ent 𝓤 (sem 𝓤 H A (Slice r)) (sem 𝓤 H A (R.the-row (α κ′) .own (lined r p) (R′.lowered (lined r p) ∷ [])))
+  whole-line : (r : RefT (List ℕ)) (p : LineSpan) → ent 𝓤 (sem 𝓤 H A (Slice r)) (sem 𝓤 H A (R.the-row (α κ′) .own (lined r p) (R′.lowered (lined r p) ∷ [])))
   whole-line r p =
       qed W (‵ (Slice r) ∷ []) ∵ nothing ! $ owned ! Boolean (Is Boolean) (bool-makes 𝓤 H A W) (p .over) _ refl $ fjoin ! $
       owned ! Boolean (Is Boolean) (bool-makes 𝓤 H A W) (p .ended) _ refl $ fjoin ! $ move ! (1 ∷ 0 ∷ []) $ fjoin ! $
@@ -193,12 +193,12 @@ module _ {M : Type 1} (𝓤 : URA M) (H : Heap 𝓤) (A : Atoms 𝓤) (W : Given
   abbrev Said : TextLine → LineReader → Type 0
   Said l d = Reads h l d
 
-  said : (r : RefT (List ℕ)) (p : LinePlace) → p ≡ found → PartSaid p r → Said (lined r p) (moved (p .next))
+  said : (r : RefT (List ℕ)) (p : LineSpan) → p ≡ found → PartSaid p r → Said (lined r p) (moved (p .next))
   said r p e e′ = record {
     said = ap (λ (bs : List ℕ). record { line = record { bytes = bs; ended = p .ended }; over = p .over }) (e′ .bytes)
-        ∙ ap (λ (y : LinePlace). record { line = record { bytes = take (y .end - h .at) (dropped (h .at) (now (h .text))); ended = y .ended }; over = y .over }) e;
-    part = subst (λ (y : LinePlace). PartSaid y r) e e′;
-    moved = ap (λ (y : LinePlace). moved (y .next)) e;
+        ∙ ap (λ (y : LineSpan). record { line = record { bytes = take (y .end - h .at) (dropped (h .at) (now (h .text))); ended = y .ended }; over = y .over }) e;
+    part = subst (λ (y : LineSpan). PartSaid y r) e e′;
+    moved = ap (λ (y : LineSpan). moved (y .next)) e;
   }
 
   -- what is left at the end: what the line l owns, the borrow at the reader d, and the two tokens
@@ -222,10 +222,10 @@ module _ {M : Type 1} (𝓤 : URA M) (H : Heap 𝓤) (A : Atoms 𝓤) (W : Given
   at-fits : Is (B κ′) h (mach h ∷ []) → h .at < 2 ^ 64
   at-fits was = LL.owed D L h _ was .1 .0 .1
 
-  end-fits : (p : LinePlace) (u : Val) → Is P.the-row p (u ∷ []) → p .end < 2 ^ 64
+  end-fits : (p : LineSpan) (u : Val) → Is P.the-row p (u ∷ []) → p .end < 2 ^ 64
   end-fits p u is = LL.owed P.the-type P′.the-laws p _ is .0 .1
 
-  next-fits : (p : LinePlace) (u : Val) → Is P.the-row p (u ∷ []) → p .next < 2 ^ 64
+  next-fits : (p : LineSpan) (u : Val) → Is P.the-row p (u ∷ []) → p .next < 2 ^ 64
   next-fits p u is = LL.owed P.the-type P′.the-laws p _ is .1 .0 .1
 
   part-fits : (r : RefT (List ℕ)) (w : Val) → Is (ShrSlice (named 0) κ′ u8) r (w ∷ []) → length (now r) < 2 ^ 64
@@ -252,7 +252,7 @@ module _ {M : Type 1} (𝓤 : URA M) (H : Heap 𝓤) (A : Atoms 𝓤) (W : Given
         -- [what `line_at` asks; what text and the reader own; the reader's cell; the open borrow; obs; auth; …; _5; …; _4; …; _3; …; _2; …; _1; …; room for _0; …]
         calls-at ! fm (LineAt 𝓤 H A at-mem run) known-line to-line
         (and-then ! (load ! (from ! (stop !)) (look ! 13 refl)) (and-then ! (load ! (from ! (stop !)) (look ! 11 refl)) (no-more !))) (λ u.
-        use1 W (later (some (λ (p : LinePlace). ((‵ (flft κ′ q′) ⊛ ‵ ftrue) ⊛ ‵ (P.the-row .own p (u ∷ [])))
+        use1 W (later (some (λ (p : LineSpan). ((‵ (flft κ′ q′) ⊛ ‵ ftrue) ⊛ ‵ (P.the-row .own p (u ∷ [])))
         ⊛ raw (ensured 𝓤 H A line-at.ended (line-at.clauses 𝓤 H A at-mem run) (κ′, tt) (h .text, (h .at, tt)) tt p)))) (id⊢ 𝓤 _) $ await ! tt $ pick ! (λ p.
         split ! $ move ! (1 ∷ []) $ use1 W (raw (fact 𝓤 (p ≡ found))) (line-said p) $ heard ! (p ≡ found) (λ e. split ! $ move ! (1 ∷ []) $
         peeks ! P.the-row (Is P.the-row) (shows 𝓤 H A P.the-row) p (u ∷ []) (λ is.
@@ -277,7 +277,7 @@ module _ {M : Type 1} (𝓤 : URA M) (H : Heap 𝓤) (A : Atoms 𝓤) (W : Given
         assigns ! (agg ! (and-then ! (load ! (from ! (stop !)) (look ! 8 refl)) (and-then ! (load ! (from ! (fld ! refl (stop !))) (look-in ! 10 (sub ! 2 refl (whole !))))
         (and-then ! (load ! (from ! (fld ! refl (stop !))) (look-in ! 10 (sub ! 3 refl (whole !)))) (no-more !))))) (from ! (stop !))
         (init ! 18 refl (tt, ((tt, (record { fits = part-fits r w is′ }, tt)), (tt, (tt, tt))))) $
-        -- the reader is put together at its new place, and the borrow is closed
+        -- the reader is put together at its new offset, and the borrow is closed
         move ! (2 ∷ []) $ use1 W (‵ (Own (moved (p .next)))) (again (p .next) (next-fits p u is)) $ move ! (3 ∷ []) $
         use1 W (‵ (cellAt fullShare (B κ′ .mir) (mach (moved (p .next)) ∷ []) b o)) (W .laws .at-raw fullShare (T′.mir erased) b o (mach (moved (p .next)))) $
         move ! (0 ∷ 1 ∷ 4 ∷ 5 ∷ 6 ∷ []) $ closes ! tt (B κ′) (moved (p .next)) (mach (moved (p .next)) ∷ []) b o $

@@ -23,7 +23,7 @@ use Rattle.plan_bytes.specs.declared.Frame.{Frame}
 use Rattle.plan_bytes.proofs.Laid.{stageLent}
 use Rattle.plan_bytes.proofs.Over.{sound-whole, over-there, over-read}
 use Rattle.plan_upstream_stage.specs.Due.{dueBy}
-use Rattle.plan_upstream.specs.Parts.{stretchRank}
+use Rattle.plan_upstream.specs.CheckInternals.{stretchRank}
 use Rattle.plan_upstream.proofs.RowSearch.{fault-found}
 use Rattle.plan_upstream.proofs.LentStage.{demand-there, weight-there}
 use Rattle.plan_upstream.proofs.RowWalk.{dueTo, Walk, Next}

@@ -22,7 +22,7 @@ use Rattle.plan_bytes.specs.declared.Frame.{Frame}
 use Rattle.plan_bytes.proofs.Laid.{stageLent}
 use Rattle.plan_bytes.proofs.Over.{sound-whole, over-read}
 use Rattle.plan_upstream_stage.specs.Due.{lowestRank}
-use Rattle.plan_upstream.specs.Parts.{unitEntry, LowestRanks}
+use Rattle.plan_upstream.specs.CheckInternals.{unitEntry, LowestRanks}
 use Rattle.plan_upstream.proofs.units.units_of.Statement.{statement}
 use Rattle.plan_upstream.proofs.units.units_of.Tie as tie
 

@@ -39,7 +39,7 @@ use Rattle.plan_bytes.specs.declared.Frame.{Frame}
 use Rattle.events.specs.declared.Event.{Event}
 use Rattle.events.specs.declared.Answer.{Answer}
 use Rattle.admission.specs.Table.{outcome}
-use Rattle.table_lent.proofs.MachineValues.{table-val, frame-val, event-val, IsTable, IsFrame, IsEvent, IsAnswer}
+use Rattle.table_lent.proofs.MachineValues.{table-val, frame-val, event-val, IsTable, IsFrame, IsMachineEvent, IsAnswer}
 use Rattle.admission.specs.declared.Table.{Table}
 use Rattle.admission.specs.declared.Outcome.{Outcome}
 use Rattle.plan_bytes.proofs.Frame as F
@@ -58,7 +58,7 @@ use Rattle.test_host.proofs.answer_lines.Proof.LentReader.{v, Own}
 pub at-table : (t : Table) (u : Val) → Is T.the-row t (u ∷ []) → IsTable t
 at-table t u is = subst (Is T.the-row t) (LL.tells T.the-type T′.the-laws t (u ∷ []) is) is
 
-pub at-event : (e : Event) (u : Val) → Is E.the-row e (u ∷ []) → IsEvent e
+pub at-event : (e : Event) (u : Val) → Is E.the-row e (u ∷ []) → IsMachineEvent e
 at-event e u is = subst (Is E.the-row e) (EL.tells E.the-type E′.the-laws e (u ∷ []) is) is
 
 pub at-answer : (a : Answer) (u : Val) → Is N.the-row a (u ∷ []) → IsAnswer a
@@ -132,7 +132,7 @@ module _ {M : Type 1} (𝓤 : URA M) (H : Heap 𝓤) (A : Atoms 𝓤) (W : Given
   abbrev pub TableKept : ℕ → GName → SProp 𝓤
   TableKept ν δ = sep 𝓤 (sem 𝓤 H A (Right ν δ)) (sem 𝓤 H A (Own κ s))
 
-  asks : IsFrame fr → IsEvent e → (ν : ℕ) (δ : GName)
+  asks : IsFrame fr → IsMachineEvent e → (ν : ℕ) (δ : GName)
       → ent 𝓤 (⋆ 𝓤 H A (‵ (flft (ν ∷ []) fullShare) ∷ ‵ (RefOwn ν δ) ∷ Lent ∷ [])) (Apply 𝓤 H A at-mem run .pre (to-apply ν δ))
   asks is-f is-e ν δ =
       qed W (‵ (flft (ν ∷ []) fullShare) ∷ ‵ (RefOwn ν δ) ∷ Lent ∷ []) ∵ move ! (2 ∷ []) $ split ! $ nothing ! $
@@ -145,7 +145,7 @@ module _ {M : Type 1} (𝓤 : URA M) (H : Heap 𝓤) (A : Atoms 𝓤) (W : Given
   abbrev Asked : ℕ → GName → SProp 𝓤
   Asked ν δ = sep 𝓤 (Apply 𝓤 H A at-mem run .pre (to-apply ν δ)) (TableKept ν δ)
 
-  pub goes-apply : IsTable t → IsFrame fr → IsEvent e
+  pub goes-apply : IsTable t → IsFrame fr → IsMachineEvent e
       → ent 𝓤 (⋆ 𝓤 H A (‵ (fat fullShare T′.mir l 0 (table-val t)) ∷ Lent ∷ [])) (H .⇛ (ex 𝓤 (λ (ν : ℕ). ex 𝓤 (λ (δ : GName). Asked ν δ))))
   goes-apply is-t is-f is-e =
       qed W (‵ (fat fullShare T′.mir l 0 (table-val t)) ∷ Lent ∷ []) ∵ updating ! $

@@ -1,4 +1,4 @@
--- The space keeps its length.
+-- The buffer keeps its length.
 use Prim.Native.Nat.{_-_}
 use mathlib.Core.Path.{_≡_}
 use lib.ListN.{length}

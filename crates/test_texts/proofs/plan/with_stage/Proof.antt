@@ -13,11 +13,11 @@ abbrev μ-loop : tie.MeasureT-loop
 loop-holds : tie.Need-loop-holds Inv-loop μ-loop
 loop-holds c = search needs
 
-mul-place : tie.Need-mul-place Inv-loop μ-loop
-mul-place c = search needs
+mul-offset : tie.Need-mul-offset Inv-loop μ-loop
+mul-offset c = search needs
 
-add-place : tie.Need-add-place Inv-loop μ-loop
-add-place c = search needs
+add-offset : tie.Need-add-offset Inv-loop μ-loop
+add-offset c = search needs
 
 element-copy-out-with-byte : tie.Need-element-copy-out-with-byte Inv-loop μ-loop
 element-copy-out-with-byte c = search needs
@@ -53,8 +53,8 @@ with-stage-spec =
     Inv-loop
     μ-loop
     loop-holds
-    mul-place
-    add-place
+    mul-offset
+    add-offset
     element-copy-out-with-byte
     with-byte-requires
     add-with-byte

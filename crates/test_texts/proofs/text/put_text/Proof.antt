@@ -5,10 +5,10 @@ use Rattle.test_texts.proofs.text.put_text.Statement.{statement}
 use Rattle.test_texts.proofs.text.put_text.Tie as tie
 
 abbrev Inv-loop : tie.InvT-loop
-Inv-loop line blank space₀ n w₀ steps₀ space w steps = Unit {0}
+Inv-loop line blank buffer₀ n w₀ steps₀ buffer w steps = Unit {0}
 
 abbrev μ-loop : tie.MeasureT-loop
-μ-loop line blank space₀ n w₀ steps₀ space w steps = 1000000 - steps
+μ-loop line blank buffer₀ n w₀ steps₀ buffer w steps = 1000000 - steps
 
 add-t9 : tie.Need-add-t9 Inv-loop μ-loop
 add-t9 c = search needs

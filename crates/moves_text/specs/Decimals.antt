@@ -9,19 +9,19 @@ use lib.ListN.{length, getD}
 use Rattle.io.specs.Digits.{digits}
 use Rattle.model.specs.Numbers.{Each}
 use Rattle.plan_text.specs.Lines.{lineEnd, tab}
-use Rattle.plan_text.specs.Records.{Digit, numberOn}
+use Rattle.plan_text.specs.Records.{Digit, valueOn}
 
--- the bytes spell the number without leading zeros
-abbrev pub Spells : ℕ → List ℕ → Type 0
-Spells n bs = (1 ≤ length bs) × Each Digit bs × (numberOn 0 bs ≡ n) × ((length bs ≡ 1) ⊎ (getD bs 0 0 ≢ 48))
+-- the bytes are the number in decimal, without leading zeros
+abbrev pub IsDecimal : ℕ → List ℕ → Type 0
+IsDecimal n bs = (1 ≤ length bs) × Each Digit bs × (valueOn 0 bs ≡ n) × ((length bs ≡ 1) ⊎ (getD bs 0 0 ≢ 48))
 
--- the same, computed (`decimal-spells`): how many digits a number has, and its digits
-abbrev pub placesIn : ℕ → ℕ → ℕ
-placesIn zero n = 1
-placesIn (suc fuel) n = cond (ltb n 10) 1 (suc (placesIn fuel (n / 10)))
+-- the same, computed (`decimal-is`): how many digits a number has, and its digits
+abbrev pub digitCount : ℕ → ℕ → ℕ
+digitCount zero n = 1
+digitCount (suc fuel) n = cond (ltb n 10) 1 (suc (digitCount fuel (n / 10)))
 
 unfoldable pub decimal : ℕ → List ℕ
-decimal n = digits 10 (placesIn n n) n
+decimal n = digits 10 (digitCount n n) n
 
 -- a line: its fields, parted by tabs, and its LF
 abbrev pub lineWith : List (List ℕ) → List ℕ

@@ -1,4 +1,4 @@
--- The one spelling of a plan: C, then the records of each section in order of rising keys (`records-rise`), a line for each. A record
+-- The canonical form of a plan: C, then the records of each section in order of rising keys (`records-rise`), a line for each. A record
 -- whose value is 0 is left out, but a bound is written always.
 use Prim.Native.Nat.{ℕ, zero, suc}
 use mathlib.Core.Bool.{cond}
@@ -11,7 +11,7 @@ use Rattle.model.specs.declared.Plan.{Plan}
 use Rattle.plan_text.specs.Records.{letters, sections, layoutOf, numbersOf}
 use Rattle.plan_text.specs.Meaning.{C, R, T, S, B, A, K}
 use Rattle.plan_text.specs.declared.Record.{Record}
-use Rattle.moves_text.specs.Written.{decimal, lineWith}
+use Rattle.moves_text.specs.Decimals.{decimal, lineWith}
 
 -- f 1, .., f n, one behind the other
 abbrev pub listTo : {A : Type 0} → ℕ → (ℕ → List A) → List A
@@ -72,10 +72,10 @@ fieldsOf r = map decimal (take (length (layoutOf (r .section))) (numbersOf r))
 abbrev pub recordText : Record → List ℕ
 recordText r = lineWith (letterOf r ∷ fieldsOf r)
 
--- the lines of records, and the spelling of a plan: no comment, no empty line
+-- the lines of records, and the canonical text of a plan: no comment, no empty line
 abbrev pub textOf : List Record → List ℕ
 textOf [] = []
 textOf (r ∷ rs) = recordText r ++ textOf rs
 
-unfoldable pub spelling : Plan → List ℕ
-spelling p = textOf (planRecords p)
+unfoldable pub canonicalText : Plan → List ℕ
+canonicalText p = textOf (planRecords p)

@@ -8,8 +8,8 @@ use Rattle.model.specs.Questions.{ask, answerOf}
 use Rattle.model.specs.declared.Stage.{Stage}
 use Rattle.model.specs.declared.Plan.{Plan}
 use Rattle.plan_text.specs.Lines.{Line}
-use Rattle.plan_text.specs.Records.{Field, layoutOf, Known, lowestIn, highestIn, isNumber, numberOn, noRecord, recordIn, numbersOf, inRanges}
-use Rattle.plan_text.specs.Written.{Draft, changed}
+use Rattle.plan_text.specs.Records.{Field, layoutOf, Known, lowestIn, highestIn, isNumeral, valueOn, noRecord, recordIn, numbersOf, inRanges}
+use Rattle.plan_text.specs.Draft.{Draft, ofSection}
 use Rattle.plan_text.specs.TextQuestions.{isAccepted}
 use Rattle.plan_text.specs.Reading.{formQuestions, withinTotal}
 use Rattle.plan_text.specs.declared.Record.{Record}
@@ -20,11 +20,11 @@ use Rattle.plan_text.specs.declared.TextAnswer.{TextAnswer}
 use Rattle.plan_text.specs.declared.TextAnswer.the-variants.{Accepted, OutOfRange, Repeated}
 
 -- the number of a field; 100000, which 5 digits never say, where it is none
-abbrev pub noNumber : ℕ
-noNumber = 100000
+abbrev pub noValue : ℕ
+noValue = 100000
 
-abbrev pub numberRead : List ℕ → ℕ
-numberRead bs = cond (isNumber bs) (numberOn 0 bs) noNumber
+abbrev pub valueRead : List ℕ → ℕ
+valueRead bs = cond (isNumeral bs) (valueOn 0 bs) noValue
 
 -- the numbers are in the ranges of the fields, by what a plan so far has
 abbrev pub FieldsInKnown : Known → ℕ → List Field → List ℕ → Type 0
@@ -62,14 +62,14 @@ narrowed r =
 abbrev pub countsAfter : Counts → Record → Counts
 countsAfter k r =
     record {
-      resources = changed r 1 (r .first % 256) (k .resources);
-      types = changed r 1 (r .second % 256) (k .types);
-      rows = changed r 1 (r .third % 256) (k .rows);
+      resources = ofSection r 1 (r .first % 256) (k .resources);
+      types = ofSection r 1 (r .second % 256) (k .types);
+      rows = ofSection r 1 (r .third % 256) (k .rows);
     }
 
 -- and with them the section of the last record
 abbrev pub headAfter : Head → Record → Head
-headAfter h r = record { counts = countsAfter (h .counts) r; section = changed r 0 (h .section) (r .section) }
+headAfter h r = record { counts = countsAfter (h .counts) r; section = ofSection r 0 (h .section) (r .section) }
 
 -- a plan and a draft by their parts
 abbrev pub planWith : Counts → List ℕ → List ℕ → List ℕ → List ℕ → List Stage → Plan

@@ -4,14 +4,14 @@ use native.Mathlib.Omega.{arith}
 use mathlib.Core.Logic.{⊎-elim}
 use lib.ListN.{length}
 use borrow.Author.Needs.{needs}
-use Rattle.test_entrances.proofs.spell.changed.Statement.{statement}
-use Rattle.test_entrances.proofs.spell.changed.Tie as tie
+use Rattle.test_entrances.proofs.dotted.changed.Statement.{statement}
+use Rattle.test_entrances.proofs.dotted.changed.Tie as tie
 
 abbrev Inv-loop : tie.InvT-loop
-Inv-loop space n₀ i₀ n i = n ≤ i
+Inv-loop buffer n₀ i₀ n i = n ≤ i
 
 abbrev μ-loop : tie.MeasureT-loop
-μ-loop space n₀ i₀ n i = length space - i
+μ-loop buffer n₀ i₀ n i = length buffer - i
 
 loop-holds : tie.Need-loop-holds Inv-loop μ-loop
 loop-holds c = search needs

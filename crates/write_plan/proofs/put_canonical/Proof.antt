@@ -5,12 +5,12 @@ use mathlib.Core.Path.{refl, ap}
 use denote.Ref.{now}
 use Rattle.model.specs.declared.Plan.{Plan}
 use Rattle.plan_bytes.specs.Over.{planRead, planOver}
-use Rattle.canonical_text.specs.Spelling.{entryRecords, textOf, spelling}
-use Rattle.canonical_text.specs.WriterParts.{entryOf}
+use Rattle.canonical_text.specs.CanonicalText.{entryRecords, textOf, canonicalText}
+use Rattle.canonical_text.specs.WriterInternals.{entryOf}
 use Rattle.canonical_text.proofs.Puts.{Sections, section-more, sections-length}
 use borrow.Author.Needs.{needs}
-use Rattle.write_plan.proofs.put_spelling.Statement.{statement}
-use Rattle.write_plan.proofs.put_spelling.Tie as tie
+use Rattle.write_plan.proofs.put_canonical.Statement.{statement}
+use Rattle.write_plan.proofs.put_canonical.Tie as tie
 
 module _ (s : tie.Start) where
   abbrev plan : Plan
@@ -27,20 +27,20 @@ module _ (c : tie.After-put-demands) where
   abbrev begun : tie.Start
   begun = listed .before .before .before .before
 
-  demands-put : Sections (plan begun) (now (begun .args .space)) 4 (listed .put-lists .result + c .put-demands .result) (c .put-demands .last .1 .1 .0)
+  demands-put : Sections (plan begun) (now (begun .args .buffer)) 4 (listed .put-lists .result + c .put-demands .result) (c .put-demands .last .1 .1 .0)
   unfolding planOver planRead
   demands-put =
-      section-more (plan begun) (now (begun .args .space)) 3 (listed .put-lists .ensures .0) refl (c .put-demands .ensures .0)
+      section-more (plan begun) (now (begun .args .buffer)) 3 (listed .put-lists .ensures .0) refl (c .put-demands .ensures .0)
 
 module _ (c : tie.After-put-bounds) where
   abbrev demanded : tie.After-put-demands
   demanded = c .before .before .before .before .before .before .before
 
   bounds-put : let s = begun demanded in
-      Sections (plan s) (now (s .args .space)) 5 (listed demanded .put-lists .result + demanded .put-demands .result + c .put-bounds .result)
+      Sections (plan s) (now (s .args .buffer)) 5 (listed demanded .put-lists .result + demanded .put-demands .result + c .put-bounds .result)
       (c .put-bounds .last .1 .1 .0)
   unfolding planOver planRead
-  bounds-put = let s = begun demanded in section-more (plan s) (now (s .args .space)) 4 (demands-put demanded) refl (c .put-bounds .ensures .0)
+  bounds-put = let s = begun demanded in section-more (plan s) (now (s .args .buffer)) 4 (demands-put demanded) refl (c .put-bounds .ensures .0)
 
 module _ (c : tie.After-put-weights) where
   abbrev bounded : tie.After-put-bounds
@@ -52,8 +52,8 @@ module _ (c : tie.After-put-weights) where
   abbrev before-weights : ℕ
   before-weights = listed (demanded bounded) .put-lists .result + demanded bounded .put-demands .result + bounded .put-bounds .result
 
-  weights-put : Sections (plan started) (now (started .args .space)) 6 (before-weights + c .put-weights .result) (c .put-weights .last .1 .1 .0)
-  weights-put = section-more (plan started) (now (started .args .space)) 5 (bounds-put bounded) refl (c .put-weights .ensures .0)
+  weights-put : Sections (plan started) (now (started .args .buffer)) 6 (before-weights + c .put-weights .result) (c .put-weights .last .1 .1 .0)
+  weights-put = section-more (plan started) (now (started .args .buffer)) 5 (bounds-put bounded) refl (c .put-weights .ensures .0)
 
   -- far below the largest number
   few : before-weights + c .put-weights .result ≤ 4000000000000000000
@@ -71,12 +71,12 @@ module _ (c : tie.After-put-entries) where
   abbrev weighed : tie.After-put-weights
   weighed = c .before .before .before .before .before .before .before .before
 
-  ranks-put : Sections (plan (started weighed)) (now (started weighed .args .space)) 7 (before-weights weighed + weighed .put-weights .result + c .put-entries .result)
+  ranks-put : Sections (plan (started weighed)) (now (started weighed .args .buffer)) 7 (before-weights weighed + weighed .put-weights .result + c .put-entries .result)
       (c .put-entries .last .1 .1 .1 .0)
   unfolding planOver planRead
   ranks-put =
       let a = started weighed .args in
-      section-more (plan (started weighed)) (now (a .space)) 6 (weights-put weighed)
+      section-more (plan (started weighed)) (now (a .buffer)) 6 (weights-put weighed)
       (ap (λ q. textOf (entryRecords (entryOf q) (a .t1 .resources) (a .t1 .rank))) (c .before .before .before .before .before .records-of .ensures)) (c .put-entries .ensures .0)
 
 put-lists-requires : tie.Need-put-lists-requires
@@ -126,14 +126,14 @@ same-length : tie.Need-same-length
 same-length c =
     let d = c .before .before in
     let s = started (weighed d) in
-    sections-length (plan s) (now (s .args .space)) 7 (ranks-put d)
+    sections-length (plan s) (now (s .args .buffer)) 7 (ranks-put d)
 
 returns : tie.Need-returns
-unfolding spelling
+unfolding canonicalText
 returns c = ranks-put (c .before .before)
 
-pub put-spelling-spec : {M : Type 1} → statement M
-put-spelling-spec =
+pub put-canonical-spec : {M : Type 1} → statement M
+put-canonical-spec =
     tie.close
     (tie.spec
     put-lists-requires

@@ -8,24 +8,24 @@ use Rattle.plan_text.specs.TextQuestions.{textNumber}
 use Rattle.plan_text.specs.Reading.{reading}
 use Rattle.plan_text.specs.declared.Reading.{Reading}
 use Rattle.moves_text.specs.OutputLines.{planLine}
-use Rattle.moves_text.specs.Space.{filled, lengthFilled}
-use Rattle.canonical_text.specs.Spelling.{spelling}
-use Rattle.canonical_text.specs.Writing.{writing, spaceAfter}
-use Rattle.canonical_text.specs.Respelled.{respelledOutput}
+use Rattle.moves_text.specs.Buffer.{filled, lengthFilled}
+use Rattle.canonical_text.specs.CanonicalText.{canonicalText}
+use Rattle.canonical_text.specs.Writing.{writing, bufferAfter}
+use Rattle.canonical_text.specs.CanonicalOutput.{canonicalOutput}
 use Rattle.canonical_text.specs.declared.Writing.{Writing}
-use Rattle.canonical_text.proofs.Respelling.{accepted-written}
+use Rattle.canonical_text.proofs.CanonicalOutput.{accepted-written}
 use borrow.Author.Needs.{needs}
-use Rattle.write_canonical.proofs.respell.Statement.{statement}
-use Rattle.write_canonical.proofs.respell.Tie as tie
+use Rattle.write_canonical.proofs.canonical_form.Statement.{statement}
+use Rattle.write_canonical.proofs.canonical_form.Tie as tie
 
 -- what is printed, by the text's answer
 module _ (text : List ℕ) where
-  spelled : textNumber (reading text .answer) ≡ 0 → spelling (reading text .plan) ≡ respelledOutput text
-  unfolding respelledOutput
-  spelled e = rw (eq-eqb (textNumber (reading text .answer)) 0 e) refl
+  printed : textNumber (reading text .answer) ≡ 0 → canonicalText (reading text .plan) ≡ canonicalOutput text
+  unfolding canonicalOutput
+  printed e = rw (eq-eqb (textNumber (reading text .answer)) 0 e) refl
 
-  told : (¬ (textNumber (reading text .answer) ≡ 0)) → planLine (textNumber (reading text .answer)) (reading text .line) ≡ respelledOutput text
-  unfolding respelledOutput
+  told : (¬ (textNumber (reading text .answer) ≡ 0)) → planLine (textNumber (reading text .answer)) (reading text .line) ≡ canonicalOutput text
+  unfolding canonicalOutput
   told ne = rw (ne-eqb (textNumber (reading text .answer)) 0 ne) refl
 
 -- where the text's number is known
@@ -56,12 +56,12 @@ returns c =
     let put = c .before .before in
     let accepted = put .before .before .before .before .before .before in
     let n = accepted .before in
-    let space = now (begun n .args .space) in
+    let buffer = now (begun n .args .buffer) in
     let zero = sym (number-told n) ∙ accepted .if1 .taken in
     let plan = ap (λ (r : Reading). r .plan) (n .before .read .ensures) in
-    let w = accepted-written (text n) zero space in (
-      ap (λ (x : Writing). x .length) (put .write-plan .ensures .0 ∙ ap (λ p. writing p space) plan) ∙ w .0 ∙ ap (λ bs. lengthFilled bs space) (spelled (text n) zero),
-      put .write-plan .ensures .1 ∙ ap (λ p. spaceAfter p space) plan ∙ w .1 ∙ ap (λ bs. filled bs space) (spelled (text n) zero),
+    let w = accepted-written (text n) zero buffer in (
+      ap (λ (x : Writing). x .length) (put .write-plan .ensures .0 ∙ ap (λ p. writing p buffer) plan) ∙ w .0 ∙ ap (λ bs. lengthFilled bs buffer) (printed (text n) zero),
+      put .write-plan .ensures .1 ∙ ap (λ p. bufferAfter p buffer) plan ∙ w .1 ∙ ap (λ bs. filled bs buffer) (printed (text n) zero),
     )
 
 put-refusal-requires : tie.Need-put-refusal-requires
@@ -74,13 +74,13 @@ returns-2 : tie.Need-returns-2
 returns-2 c =
     let put = c .before .before in
     let n = put .before .before .before in
-    let space = now (begun n .args .space) in
+    let buffer = now (begun n .args .buffer) in
     let line = ap (λ (r : Reading). r .line) (n .before .read .ensures) in
     let said = (λ i. planLine (number-told n i) (line i)) ∙ told (text n) (λ e. put .before .before .if1 .left (number-told n ∙ e)) in
-    (put .put-refusal .ensures .0 ∙ ap (λ bs. lengthFilled bs space) said, put .put-refusal .ensures .1 ∙ ap (λ bs. filled bs space) said)
+    (put .put-refusal .ensures .0 ∙ ap (λ bs. lengthFilled bs buffer) said, put .put-refusal .ensures .1 ∙ ap (λ bs. filled bs buffer) said)
 
-pub respell-spec : {M : Type 1} → statement M
-respell-spec =
+pub canonical-form-spec : {M : Type 1} → statement M
+canonical-form-spec =
     tie.close
     (tie.spec
     read-requires
