@@ -12,3 +12,6 @@ pub struct Writing {
     pub answer: WriteAnswer,
     pub length: usize,
 }
+
+// The published number of a text that has no room, as code says it; 11 is `model::UNSOUND_PLAN`.
+pub const NO_ROOM: u32 = 9;

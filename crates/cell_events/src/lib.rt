@@ -5,6 +5,7 @@ ghost use Rattle.cell_layout.specs.HostAnswers.{packed, eventAnswer, eventCell,
 use admission::Table;
 use cell_layout::CELL;
 use cell_layout::JOB_COUNT;
+use cell_layout::NO_CELL;
 use cell_layout::STAGES;
 use cell_reads::count_in;
 use cell_reads::frame_in;
@@ -31,7 +32,7 @@ pub fn event_at(cell: &mut [u8], event: Event) -> u64
     ensures { λ r. ⌜ (r ≡ eventAnswer (now (cell .entry)) event) × (now (cell .exit) ≡ eventCell (now (cell .entry)) event) ⌝ }
 {
     if cell.len() < CELL {
-        return 9;
+        return NO_CELL;
     }
     let frame = frame_in(cell);
     let count = count_in(cell);
@@ -54,7 +55,7 @@ pub fn drain_at(cell: &mut [u8], budget: u32) -> u64
     ensures { λ r. ⌜ (r ≡ drainAnswer (now (cell .entry)) budget) × (now (cell .exit) ≡ drainCell (now (cell .entry)) budget) ⌝ }
 {
     if cell.len() < CELL {
-        return 9;
+        return NO_CELL;
     }
     let list = list_in(cell);
     let table = Table { list };

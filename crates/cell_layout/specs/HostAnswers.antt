@@ -23,8 +23,12 @@ use Rattle.cell_layout.specs.Layout.{isCell, planIn, listIn, withPlan, w
 abbrev pub packed : ℕ → ℕ → ℕ → ℕ
 packed number first second = number + 65536 * second + 4294967296 * first
 
+-- 9: there are fewer bytes than a cell has
+abbrev pub tooFewBytes : ℕ
+tooFewBytes = 9
+
 abbrev pub noCell : ℕ
-noCell = packed 9 0 0
+noCell = packed tooFewBytes 0 0
 
 -- a plan text is read: its answer and line, and its plan, which is the empty plan if the text is refused; the table stays
 abbrev pub packedReading : Reading → ℕ

@@ -22,3 +22,6 @@ pub const JOBS: usize = JOB_COUNT + 1;
 
 // The bytes of the whole.
 pub const CELL: usize = JOBS + 12 * 64;
+
+// What is answered if there are fewer bytes: a number without a place.
+pub const NO_CELL: u64 = 9;

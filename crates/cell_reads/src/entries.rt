@@ -6,18 +6,8 @@ ghost use Rattle.plan_bytes.specs.Over.{bytesFrom};
 ghost use Rattle.cell_layout.specs.Layout.{valueOf, boundSize, jobIn, jobSize};
 use bytes::copy;
 use model::Job;
-
-fn u8_to_u16(x: u8) -> u16
-    ensures { λ r. ⌜ (r ≡ x) × (r ≤ 255) ⌝ }
-{
-    x as u16
-}
-
-fn u8_to_u32(x: u8) -> u32
-    ensures { λ r. ⌜ (r ≡ x) × (r ≤ 255) ⌝ }
-{
-    x as u32
-}
+use widen::u8_to_u16;
+use widen::u8_to_u32;
 
 // A bound has two bytes.
 pub(crate) fn bound_at(bounds: &[u8], at: usize) -> u16

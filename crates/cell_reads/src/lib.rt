@@ -27,6 +27,7 @@ use events::JobList;
 use model::Job;
 use plan_bytes::Frame;
 use plan_empty::empty_frame;
+use widen::u8_to_usize;
 
 mod entries;
 
@@ -73,12 +74,6 @@ fn no_jobs() -> JobList
         count: 0,
         jobs: [none; 64],
     }
-}
-
-fn u8_to_usize(x: u8) -> usize
-    ensures { λ r. ⌜ r ≡ x ⌝ }
-{
-    x as usize
 }
 
 // How many jobs the cell counts.

@@ -50,3 +50,24 @@ pub struct ListDrained {
     pub moves: u32,
     pub list: JobList,
 }
+
+// The published numbers of refusals and of ends, as code says them; 11 is `model::UNSOUND_PLAN`.
+pub const DISAGREEMENT: u32 = 12;
+
+pub const BAD_NUMBER: u32 = 13;
+
+pub const WRONG_ACTIVITY: u32 = 14;
+
+pub const UNKNOWN_TYPE: u32 = 15;
+
+pub const FULL: u32 = 16;
+
+pub const WRONG_STAGE: u32 = 17;
+
+pub const OVER_CAPACITY: u32 = 18;
+
+pub const ROW_BROKEN: u32 = 19;
+
+pub const OUT_OF_BUDGET: u32 = 31;
+
+pub const NO_MOVE: u32 = 32;

@@ -36,3 +36,16 @@ pub enum Check {
     WrongWeight(u32),
     WrongBound(u32),
 }
+
+// The published numbers of its refusals, as code says them; 11 is that of every question whether a plan is sound.
+pub const UNSOUND_PLAN: u32 = 11;
+
+pub const NO_RANK: u32 = 21;
+
+pub const NOT_ONE_UNIT: u32 = 22;
+
+pub const ROW_COUNT: u32 = 23;
+
+pub const WRONG_WEIGHT: u32 = 24;
+
+pub const WRONG_BOUND: u32 = 25;

@@ -11,6 +11,7 @@ use moves_head::put_about;
 use moves_input::event_of;
 use moves_input::plan_length;
 use moves_text::EventLine;
+use moves_text::MALFORMED;
 use plan_bytes::Frame;
 use plan_numbers::text_number;
 use read_lines::line_end;
@@ -42,7 +43,7 @@ fn put_replies(events: &[u8], frame: Frame, stages: &[u8], buffer: &mut [u8], st
             EventLine::Skipped => {}
             EventLine::Malformed => {
                 let active = table.list.count as u32;
-                put += put_event_line(ordinal, 41, 0, active, buffer, put);
+                put += put_event_line(ordinal, MALFORMED, 0, active, buffer, put);
                 ordinal += 1;
             }
             EventLine::Given(event) => {

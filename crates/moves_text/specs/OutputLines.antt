@@ -36,9 +36,13 @@ aboutText number line p = planLine number line ++ cond (eqb number 0) (aboutChec
 abbrev pub aboutPlan : Reading → List ℕ
 aboutPlan r = aboutText (textNumber (r .answer)) (r .line) (r .plan)
 
--- the answer to a counted line with its place, 41 for a malformed one, and the table after it
+-- the paper's number of a malformed line
+abbrev pub malformed : ℕ
+malformed = 41
+
+-- the answer to a counted line with its place, and the table after it
 abbrev pub answerTo : Plan → JobList → Option Event → ℕ × ℕ
-answerTo p t none = (41, 0)
+answerTo p t none = (malformed, 0)
 answerTo p t (some e) = answerNumbers (answer p t e)
 
 abbrev pub listAfterLine : Plan → JobList → Option Event → JobList

@@ -18,16 +18,17 @@ use Rattle.plan_text.specs.Reading.{reading}
 use Rattle.moves_text.specs.Quoted.{quoted}
 use Rattle.moves_text.specs.Division.{planPart, eventPart}
 use Rattle.moves_text.specs.EventLines.{countedIn, eventsIn}
+use Rattle.moves_text.specs.OutputLines.{malformed}
 use Rattle.moves_text.specs.Output.{Reply, printedFrom, output}
 
 -- the plan is accepted and meets the upstream rule
 abbrev pub metLines : List ℕ
 metLines = quoted "P\t0\t0\nQ\t0\t0\t0\n"
 
--- the numbers and places that the lines say, without those that say 41: the answers to the well-formed lines
+-- the numbers and places that the lines say, without those that say 41 (`malformed`): the answers to the well-formed lines
 abbrev pub said : List Reply → List (ℕ × ℕ)
 said [] = []
-said (r ∷ rs) = cond (eqb (r .number) 41) (said rs) ((r .number, r .place) ∷ said rs)
+said (r ∷ rs) = cond (eqb (r .number) malformed) (said rs) ((r .number, r .place) ∷ said rs)
 
 -- how many lines say 0, and the jobs active in the last
 abbrev pub admittedReplies : List Reply → ℕ

@@ -8,3 +8,6 @@ pub enum EventLine {
     Malformed,
     Given(Event),
 }
+
+// The published number of a malformed line, as code says it.
+pub const MALFORMED: u32 = 41;

@@ -4,8 +4,22 @@ ghost use mathlib.Core.Path.{_≡_};
 ghost use Rattle.model.specs.Upstream.{checkNumbers};
 ghost use Rattle.plan_text.specs.TextQuestions.{textNumber};
 ghost use Rattle.canonical_text.specs.Writing.{writeNumber};
+use canonical_text::NO_ROOM;
 use canonical_text::WriteAnswer;
 use model::Check;
+use model::NO_RANK;
+use model::NOT_ONE_UNIT;
+use model::ROW_COUNT;
+use model::UNSOUND_PLAN;
+use model::WRONG_BOUND;
+use model::WRONG_WEIGHT;
+use plan_text::BAD_FIELDS;
+use plan_text::BAD_LETTER;
+use plan_text::BAD_LINE;
+use plan_text::INCOMPLETE;
+use plan_text::OUT_OF_RANGE;
+use plan_text::REPEATED;
+use plan_text::TOO_LONG;
 use plan_text::TextAnswer;
 
 pub fn check_number(c: Check) -> u32
@@ -13,12 +27,12 @@ pub fn check_number(c: Check) -> u32
 {
     match c {
         Check::Meets => 0,
-        Check::UnsoundPlan => 11,
-        Check::NoRank => 21,
-        Check::NotOneUnit { kind: _, stage: _ } => 22,
-        Check::RowCount => 23,
-        Check::WrongWeight(_) => 24,
-        Check::WrongBound(_) => 25,
+        Check::UnsoundPlan => UNSOUND_PLAN,
+        Check::NoRank => NO_RANK,
+        Check::NotOneUnit { kind: _, stage: _ } => NOT_ONE_UNIT,
+        Check::RowCount => ROW_COUNT,
+        Check::WrongWeight(_) => WRONG_WEIGHT,
+        Check::WrongBound(_) => WRONG_BOUND,
     }
 }
 
@@ -58,13 +72,13 @@ pub fn text_number(a: TextAnswer) -> u32
 {
     match a {
         TextAnswer::Accepted => 0,
-        TextAnswer::TooLong => 1,
-        TextAnswer::BadLine => 2,
-        TextAnswer::BadLetter => 3,
-        TextAnswer::BadFields => 4,
-        TextAnswer::OutOfRange => 5,
-        TextAnswer::Repeated => 6,
-        TextAnswer::Incomplete => 7,
+        TextAnswer::TooLong => TOO_LONG,
+        TextAnswer::BadLine => BAD_LINE,
+        TextAnswer::BadLetter => BAD_LETTER,
+        TextAnswer::BadFields => BAD_FIELDS,
+        TextAnswer::OutOfRange => OUT_OF_RANGE,
+        TextAnswer::Repeated => REPEATED,
+        TextAnswer::Incomplete => INCOMPLETE,
     }
 }
 
@@ -74,7 +88,7 @@ pub fn write_number(a: WriteAnswer) -> u32
 {
     match a {
         WriteAnswer::Written => 0,
-        WriteAnswer::NoRoom => 9,
-        WriteAnswer::UnsoundPlan => 11,
+        WriteAnswer::NoRoom => NO_ROOM,
+        WriteAnswer::UnsoundPlan => UNSOUND_PLAN,
     }
 }

@@ -7,21 +7,11 @@ ghost use Rattle.model.specs.Numbers.{at, sumTo};
 ghost use Rattle.plan_bytes.specs.Over.{bytesFrom, stageAt};
 ghost use Rattle.internals.specs.Internals.{stageIndex};
 use bytes::copy;
+use widen::u8_to_u32;
+use widen::u8_to_usize;
 
 // The index of no stage: it is beyond the last.
 pub const NO_STAGE: usize = 128;
-
-fn u8_to_u32(x: u8) -> u32
-    ensures { λ r. ⌜ r ≡ x ⌝ }
-{
-    x as u32
-}
-
-fn u8_to_usize(x: u8) -> usize
-    ensures { λ r. ⌜ (r ≡ x) × (r ≤ 255) ⌝ }
-{
-    x as usize
-}
 
 // Handed the array itself, of which it is known that it has 16 entries.
 fn entry(lengths: [u8; 16], kind: u32) -> u32

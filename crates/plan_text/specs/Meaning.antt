@@ -10,7 +10,7 @@ use Rattle.model.specs.Limits.{maxResources, maxTypes, maxRows, maxAllStages}
 use Rattle.model.specs.Numbers.{InRange}
 use Rattle.model.specs.Plan.{noStage, capacityOf, rankOf, boundOf, lengthOf, demandOf, weightOf}
 use Rattle.model.specs.declared.Plan.{Plan}
-use Rattle.plan_text.specs.Records.{Has}
+use Rattle.plan_text.specs.Records.{sectionC, sectionR, sectionT, sectionS, sectionB, sectionA, sectionK, Has}
 use Rattle.plan_text.specs.declared.Record.{Record}
 
 -- a record of a section with its numbers
@@ -19,25 +19,25 @@ line section a b c d = record { section = section; first = a; second = b; third 
 
 -- the records as document 01 writes them
 abbrev pub C : ℕ → ℕ → ℕ → Record
-C resources types rows = line 1 resources types rows 0
+C resources types rows = line sectionC resources types rows 0
 
 abbrev pub R : ℕ → ℕ → Record
-R resource capacity = line 2 resource capacity 0 0
+R resource capacity = line sectionR resource capacity 0 0
 
 abbrev pub T : ℕ → ℕ → Record
-T kind stages = line 3 kind stages 0 0
+T kind stages = line sectionT kind stages 0 0
 
 abbrev pub S : ℕ → ℕ → ℕ → ℕ → Record
-S kind stage resource units = line 4 kind stage resource units
+S kind stage resource units = line sectionS kind stage resource units
 
 abbrev pub B : ℕ → ℕ → Record
-B row bound = line 5 row bound 0 0
+B row bound = line sectionB row bound 0 0
 
 abbrev pub A : ℕ → ℕ → ℕ → ℕ → Record
-A row kind stage weight = line 6 row kind stage weight
+A row kind stage weight = line sectionA row kind stage weight
 
 abbrev pub K : ℕ → ℕ → Record
-K resource rank = line 7 resource rank 0 0
+K resource rank = line sectionK resource rank 0 0
 
 -- what records say of the plan so far: a value of 1 or more is held exactly when its record is there, and what is not there yet is 0
 pub record RecordsSaySoFar (rs : List Record) (p : Plan) : Type 0 where

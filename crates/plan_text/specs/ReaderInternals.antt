@@ -8,7 +8,7 @@ use Rattle.model.specs.Questions.{ask, answerOf}
 use Rattle.model.specs.declared.Stage.{Stage}
 use Rattle.model.specs.declared.Plan.{Plan}
 use Rattle.plan_text.specs.Lines.{Line}
-use Rattle.plan_text.specs.Records.{Field, layoutOf, Known, lowestIn, highestIn, isNumeral, valueOn, noRecord, recordIn, numbersOf, inRanges}
+use Rattle.plan_text.specs.Records.{sectionC, sectionB, Field, layoutOf, Known, lowestIn, highestIn, isNumeral, valueOn, noRecord, recordIn, numbersOf, inRanges}
 use Rattle.plan_text.specs.Draft.{Draft, ofSection}
 use Rattle.plan_text.specs.TextQuestions.{isAccepted}
 use Rattle.plan_text.specs.Reading.{formQuestions, withinTotal}
@@ -53,7 +53,7 @@ narrowed r =
     record {
       section = r .section;
       first = r .first;
-      second = cond (eqb (r .section) 5) (r .second % 65536) (r .second % 256);
+      second = cond (eqb (r .section) sectionB) (r .second % 65536) (r .second % 256);
       third = r .third;
       fourth = r .fourth % 256;
     }
@@ -62,9 +62,9 @@ narrowed r =
 abbrev pub countsAfter : Counts → Record → Counts
 countsAfter k r =
     record {
-      resources = ofSection r 1 (r .first % 256) (k .resources);
-      types = ofSection r 1 (r .second % 256) (k .types);
-      rows = ofSection r 1 (r .third % 256) (k .rows);
+      resources = ofSection r sectionC (r .first % 256) (k .resources);
+      types = ofSection r sectionC (r .second % 256) (k .types);
+      rows = ofSection r sectionC (r .third % 256) (k .rows);
     }
 
 -- and with them the section of the last record

@@ -11,7 +11,7 @@ use Rattle.model.specs.Plan.{emptyPlan}
 use Rattle.model.specs.Soundness.{sound}
 use Rattle.model.specs.declared.Plan.{Plan}
 use Rattle.plan_text.specs.Lines.{Line, linesOf, isSkipped, isPlain, columns, fieldsIn}
-use Rattle.plan_text.specs.Records.{sections, layoutOf, knownOf, fieldsRead, recordIn, inRanges}
+use Rattle.plan_text.specs.Records.{sections, sectionC, sectionT, layoutOf, knownOf, fieldsRead, recordIn, inRanges}
 use Rattle.plan_text.specs.Draft.{Draft, emptyDraft, draftAfter, heldIn}
 use Rattle.plan_text.specs.TextQuestions.{maxText}
 use Rattle.plan_text.specs.declared.Record.{Record}
@@ -28,7 +28,7 @@ accepted p = record { answer = Accepted; line = 0; from = 0; to = 0; plan = p }
 
 -- 3, where the last record was of this section
 abbrev pub follows : ℕ → ℕ → Bool
-follows last section = inRange section sections && leb last section && (ltb 0 last || eqb section 1)
+follows last section = inRange section sections && leb last section && (ltb 0 last || eqb section sectionC)
 
 -- 2, 3 and 4: the form of a line, which is skipped or has a letter and so many fields
 abbrev pub formQuestions : ℕ → Line → List (Question TextAnswer)
@@ -41,7 +41,7 @@ formQuestions last l =
 
 -- 5 of all types together
 abbrev pub withinTotal : List ℕ → Record → Bool
-withinTotal lengths r = cond (eqb (r .section) 3) (leb (sumTo maxTypes (at lengths) + r .second) maxAllStages) true
+withinTotal lengths r = cond (eqb (r .section) sectionT) (leb (sumTo maxTypes (at lengths) + r .second) maxAllStages) true
 
 -- 5 and 6: what a record says, after the draft
 abbrev pub recordQuestions : Draft → Record → List (Question TextAnswer)

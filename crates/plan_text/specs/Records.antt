@@ -20,6 +20,31 @@ letters = 67 ∷ 82 ∷ 84 ∷ 83 ∷ 66 ∷ 65 ∷ 75 ∷ []
 abbrev pub sections : ℕ
 sections = 7
 
+-- the sections by their letters, and that of a line that is no record
+abbrev pub sectionC : ℕ
+sectionC = 1
+
+abbrev pub sectionR : ℕ
+sectionR = 2
+
+abbrev pub sectionT : ℕ
+sectionT = 3
+
+abbrev pub sectionS : ℕ
+sectionS = 4
+
+abbrev pub sectionB : ℕ
+sectionB = 5
+
+abbrev pub sectionA : ℕ
+sectionA = 6
+
+abbrev pub sectionK : ℕ
+sectionK = 7
+
+abbrev pub noSection : ℕ
+noSection = 0
+
 -- where a number stands first in a list, counted from n; 0 where it does not
 abbrev pub position : ℕ → ℕ → List ℕ → ℕ
 position b n [] = 0

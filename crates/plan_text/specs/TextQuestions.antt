@@ -13,7 +13,7 @@ use Rattle.model.specs.Questions.{Condition, asks, AllHold}
 use Rattle.model.specs.Plan.{emptyPlan}
 use Rattle.model.specs.Soundness.{Sound}
 use Rattle.plan_text.specs.Lines.{Line, linesOf, isSkipped, Plain, columns, letterIn, fieldsIn}
-use Rattle.plan_text.specs.Records.{sections, sectionOf, Field, between, resource, kind, row, stage, units, layoutOf, IsNumeral}
+use Rattle.plan_text.specs.Records.{sections, sectionC, sectionT, sectionOf, Field, between, resource, kind, row, stage, units, layoutOf, IsNumeral}
 use Rattle.plan_text.specs.Records.{recordIn, numbersOf, keyOf, Has}
 use Rattle.plan_text.specs.Meaning.{C, R, T, S, B, K, RecordsSay, Sized}
 use Rattle.plan_text.specs.declared.Record.{Record}
@@ -81,7 +81,7 @@ lastSection (r ∷ q ∷ rs) = lastSection (q ∷ rs)
 
 -- 3: the letter is in the list, C if this is the first record, and not of an earlier section than the record before
 abbrev pub Follows : ℕ → ℕ → Type 0
-Follows last section = InRange section sections × (last ≤ section) × ((1 ≤ last) ⊎ (section ≡ 1))
+Follows last section = InRange section sections × (last ≤ section) × ((1 ≤ last) ⊎ (section ≡ sectionC))
 
 -- 4: the right count of fields, each 1 to 5 digits
 abbrev pub WellFielded : Line → Type 0
@@ -130,7 +130,7 @@ FirstWithKey rs r = Each (λ (q : Record). keyOf q ≢ keyOf r) rs
 -- 5 of all types together: the stages that their records T say are at most 128
 abbrev pub stagesIn : List Record → ℕ
 stagesIn [] = 0
-stagesIn (r ∷ rs) = cond (eqb (r .section) 3) (r .second) 0 + stagesIn rs
+stagesIn (r ∷ rs) = cond (eqb (r .section) sectionT) (r .second) 0 + stagesIn rs
 
 abbrev pub WithinTotal : List Record → Record → Type 0
 WithinTotal rs r = stagesIn (r ∷ rs) ≤ maxAllStages

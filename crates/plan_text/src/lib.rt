@@ -78,3 +78,18 @@ pub struct FramedReading {
     pub frame: Frame,
     pub stages: [u8; 8192],
 }
+
+// The published numbers of refusals, as code says them.
+pub const TOO_LONG: u32 = 1;
+
+pub const BAD_LINE: u32 = 2;
+
+pub const BAD_LETTER: u32 = 3;
+
+pub const BAD_FIELDS: u32 = 4;
+
+pub const OUT_OF_RANGE: u32 = 5;
+
+pub const REPEATED: u32 = 6;
+
+pub const INCOMPLETE: u32 = 7;

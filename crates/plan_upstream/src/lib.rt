@@ -9,7 +9,6 @@ ghost use Rattle.model.specs.declared.Check.the-variants.{Meets};
 ghost use Rattle.plan_bytes.specs.Over.{planOver};
 ghost use Rattle.plan_upstream.specs.CheckInternals.{LowestRanks};
 use crate::position::position_of;
-use crate::position::u8_to_usize;
 use crate::ranks::closed;
 use crate::rows::faulty_bound;
 use crate::rows::faulty_row;
@@ -17,6 +16,7 @@ use crate::units::units_of;
 use model::Check;
 use plan_bytes::Frame;
 use plan_soundness::is_sound;
+use widen::u8_to_usize;
 
 mod position;
 mod ranks;

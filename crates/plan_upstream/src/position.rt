@@ -2,12 +2,7 @@
 ghost use mathlib.Core.Path.{_≡_};
 ghost use Prim.Native.Nat.{_≤_};
 ghost use Rattle.plan_upstream.specs.CheckInternals.{Stands};
-
-pub(crate) fn u8_to_usize(x: u8) -> usize
-    ensures { λ r. ⌜ (r ≡ x) × (r ≤ 255) ⌝ }
-{
-    x as usize
-}
+use widen::u8_to_usize;
 
 // A stage by its type and its number, each counted from 0.
 pub(crate) struct Position {

@@ -7,9 +7,10 @@ ghost use Rattle.model.specs.Soundness.{Sound};
 ghost use Rattle.model.specs.Upstream.{faultyRow};
 ghost use Rattle.plan_bytes.specs.Over.{planOver};
 ghost use Rattle.plan_upstream.specs.CheckInternals.{StretchRanks};
-use crate::position::u8_to_usize;
 use plan_bytes::Frame;
 use plan_upstream_stage::due_weight;
+use widen::u8_to_u16;
+use widen::u8_to_usize;
 
 // The number of the row at which a search of n rows was left; 0 where it was not.
 fn fault_number(row: usize, n: usize) -> u32
@@ -17,12 +18,6 @@ fn fault_number(row: usize, n: usize) -> u32
     ensures { λ r. ⌜ (row < n → r ≡ row + 1) × (n ≤ row → r ≡ 0) ⌝ }
 {
     if row < n { (row + 1) as u32 } else { 0 }
-}
-
-fn u8_to_u16(x: u8) -> u16
-    ensures { λ r. ⌜ (r ≡ x) × (r ≤ 255) ⌝ }
-{
-    x as u16
 }
 
 // The lowest row that is not weighted 1 at every stage upstream of its resource and 0 elsewhere; 0 for none. The stages are

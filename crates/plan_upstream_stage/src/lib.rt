@@ -5,18 +5,8 @@ ghost use Prim.Native.Nat.{_≤_, min};
 ghost use lib.Dec.{eqb};
 ghost use Rattle.model.specs.Numbers.{at, sumTo};
 ghost use Rattle.plan_upstream_stage.specs.Due.{rankIf, lowestRank, dueBy};
-
-fn u8_to_usize(x: u8) -> usize
-    ensures { λ r. ⌜ (r ≡ x) × (r ≤ 255) ⌝ }
-{
-    x as usize
-}
-
-fn u8_to_u16(x: u8) -> u16
-    ensures { λ r. ⌜ (r ≡ x) × (r ≤ 255) ⌝ }
-{
-    x as u16
-}
+use widen::u8_to_u16;
+use widen::u8_to_usize;
 
 fn fewer(a: usize, b: usize) -> usize
     ensures { λ r. ⌜ r ≡ min a b ⌝ }

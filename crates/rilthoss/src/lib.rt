@@ -10,6 +10,7 @@ use cell_events::event_at;
 use cell_events::pack;
 use cell_layout::CELL;
 use cell_layout::JOB_COUNT;
+use cell_layout::NO_CELL;
 use cell_layout::STAGES;
 use cell_reads::frame_in;
 use cell_writes::put_plan;
@@ -73,7 +74,7 @@ pub extern "C" fn rilthoss_read_plan(cell: &mut [u8], text: &[u8]) -> u64
     ensures { λ r. ⌜ (r ≡ readAnswer (now (text .entry)) (now (cell .entry))) × (now (cell .exit) ≡ readCell (now (text .entry)) (now (cell .entry))) ⌝ }
 {
     if cell.len() < CELL {
-        return 9;
+        return NO_CELL;
     }
     let reading = read(text);
     let answer = reading.answer;
@@ -99,7 +100,7 @@ pub extern "C" fn rilthoss_write_plan<'a>(cell: &'a [u8], buffer: &'a mut [u8]) 
     ensures { λ r. ⌜ (r ≡ writeAnswer (now (cell .entry)) (now (buffer .entry))) × (now (buffer .exit) ≡ writtenBuffer (now (cell .entry)) (now (buffer .entry))) ⌝ }
 {
     if cell.len() < CELL {
-        return 9;
+        return NO_CELL;
     }
     let frame = frame_in(cell);
     let written = write_plan(frame, &cell[STAGES..JOB_COUNT], buffer);
@@ -113,7 +114,7 @@ pub extern "C" fn rilthoss_check(cell: &[u8]) -> u64
     ensures { λ r. ⌜ r ≡ checkAnswer (now (cell .entry)) ⌝ }
 {
     if cell.len() < CELL {
-        return 9;
+        return NO_CELL;
     }
     let frame = frame_in(cell);
     let check = upstream_check(frame, &cell[STAGES..JOB_COUNT]);

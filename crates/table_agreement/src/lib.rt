@@ -22,6 +22,7 @@ use plan_stages::length_of;
 use table_jobs::job_at;
 use table_sums::kept_after;
 use table_sums::sums_of;
+use widen::u8_to_u16;
 
 // A flag in place of an early exit: only so does the compiler vectorise.
 fn none_equals(ns: &[u32], n: u32) -> bool
@@ -129,12 +130,6 @@ fn well_formed<'a>(count: usize, jobs: &'a [u32; 192], lengths: &'a [u8; 16], ty
     }
     let numbers = numbers_of(jobs);
     all_distinct(&numbers[..count])
-}
-
-fn u8_to_u16(x: u8) -> u16
-    ensures { λ r. ⌜ r ≡ x ⌝ }
-{
-    x as u16
 }
 
 // The same numbers in 16 bits each.

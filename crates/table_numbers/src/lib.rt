@@ -3,22 +3,33 @@ ghost use mathlib.Core.Path.{_≡_};
 ghost use Rattle.events.specs.Events.{answerNumbers};
 ghost use Rattle.events.specs.Drain.{endNumber};
 use events::Answer;
+use events::BAD_NUMBER;
+use events::DISAGREEMENT;
 use events::End;
+use events::FULL;
+use events::NO_MOVE;
+use events::OUT_OF_BUDGET;
+use events::OVER_CAPACITY;
+use events::ROW_BROKEN;
+use events::UNKNOWN_TYPE;
+use events::WRONG_ACTIVITY;
+use events::WRONG_STAGE;
+use model::UNSOUND_PLAN;
 
 pub fn answer_number(a: Answer) -> u32
     ensures { λ r. ⌜ r ≡ answerNumbers a .0 ⌝ }
 {
     match a {
         Answer::Admitted => 0,
-        Answer::UnsoundPlan => 11,
-        Answer::Disagreement => 12,
-        Answer::BadNumber => 13,
-        Answer::WrongActivity => 14,
-        Answer::UnknownType => 15,
-        Answer::Full => 16,
-        Answer::WrongStage => 17,
-        Answer::OverCapacity(_) => 18,
-        Answer::RowBroken(_) => 19,
+        Answer::UnsoundPlan => UNSOUND_PLAN,
+        Answer::Disagreement => DISAGREEMENT,
+        Answer::BadNumber => BAD_NUMBER,
+        Answer::WrongActivity => WRONG_ACTIVITY,
+        Answer::UnknownType => UNKNOWN_TYPE,
+        Answer::Full => FULL,
+        Answer::WrongStage => WRONG_STAGE,
+        Answer::OverCapacity(_) => OVER_CAPACITY,
+        Answer::RowBroken(_) => ROW_BROKEN,
     }
 }
 
@@ -44,9 +55,9 @@ pub fn end_number(e: End) -> u32
 {
     match e {
         End::Emptied => 0,
-        End::UnsoundPlan => 11,
-        End::Disagreement => 12,
-        End::OutOfBudget => 31,
-        End::NoMove => 32,
+        End::UnsoundPlan => UNSOUND_PLAN,
+        End::Disagreement => DISAGREEMENT,
+        End::OutOfBudget => OUT_OF_BUDGET,
+        End::NoMove => NO_MOVE,
     }
 }

@@ -19,24 +19,9 @@ use plan_stages::length_of;
 use plan_stages::stage_index;
 use plan_stages::weights_at;
 use table_jobs::job_at;
-
-fn u8_to_u16(x: u8) -> u16
-    ensures { λ r. ⌜ (r ≡ x) × (r ≤ 255) ⌝ }
-{
-    x as u16
-}
-
-fn u8_to_u32(x: u8) -> u32
-    ensures { λ r. ⌜ (r ≡ x) × (r ≤ 255) ⌝ }
-{
-    x as u32
-}
-
-fn u16_to_u32(x: u16) -> u32
-    ensures { λ r. ⌜ (r ≡ x) × (r ≤ 65535) ⌝ }
-{
-    x as u32
-}
+use widen::u8_to_u16;
+use widen::u8_to_u32;
+use widen::u16_to_u32;
 
 // The amounts with a stage's more: 64 of 255 come to 16,320. A fresh array: amounts changed in place are not vectorised.
 fn added<'a>(amounts: &'a [u16; 32], more: &'a [u8; 32]) -> [u16; 32]

@@ -24,7 +24,7 @@ returns-2 : tie.Need-returns-2
 unfolding listLaid
 returns-2 c =
     let bytes = now (c .before .before .before .before .args .cell) in
-    rw (is-cell bytes (omega arith)) (c .u8-to-usize .ensures ∙ number-of-one (offsetOf jobCountPart) bytes (omega arith))
+    rw (is-cell bytes (omega arith)) (c .u8-to-usize .ensures .0 ∙ number-of-one (offsetOf jobCountPart) bytes (omega arith))
 
 pub count-in-spec : {M : Type 1} → statement M
 count-in-spec =

@@ -28,7 +28,7 @@ u8-to-u32-requires c κs = search needs
 returns-3 : tie.Need-returns-3
 returns-3 c =
     let a = c .before .before .before .args in
-    c .u8-to-u32 .ensures ∙ sym (at-position (a .t1) (a .kind) (omega arith))
+    c .u8-to-u32 .ensures .0 ∙ sym (at-position (a .t1) (a .kind) (omega arith))
 
 pub entry-spec : {M : Type 1} → statement M
 entry-spec =

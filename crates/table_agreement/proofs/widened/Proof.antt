@@ -43,7 +43,7 @@ loop-again c =
     let room : l .i < length xs = omega arith in
     let written = take-suc-set (l .ys) (l .i) (c .u8-to-u16 .result) (omega arith) in
     let read = take-suc xs (l .i) 0 room in
-    (search needs, simp length-set (l .inv .1), l .inv .2, rw (add-one, written, read, l .inv .3, c .u8-to-u16 .ensures) refl)
+    (search needs, simp length-set (l .inv .1), l .inv .2, rw (add-one, written, read, l .inv .3, c .u8-to-u16 .ensures .0) refl)
 
 returns : tie.Need-returns Inv-loop μ-loop
 returns c =
