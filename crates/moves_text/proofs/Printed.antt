@@ -3,7 +3,7 @@
 use Prim.Native.Nat.{ℕ, _+_, _≤_}
 use native.Mathlib.Numerals.{add-one}
 use native.Mathlib.Omega.{arith}
-use mathlib.Core.List.{List, [], _∷_, _++_}
+use mathlib.Core.List.{List, [], _∷_, _++_, map}
 use mathlib.Core.Option.{Option}
 use mathlib.Core.Path.{_≡_, refl, ap, _∙_}
 use lib.ListN.{length}
@@ -14,14 +14,16 @@ use Rattle.model.specs.declared.Plan.{Plan}
 use Rattle.events.specs.JobList.{emptyList}
 use Rattle.events.specs.declared.Event.{Event}
 use Rattle.emptying.specs.Run.{listAfterAll}
+use Rattle.plan_text.specs.Lines.{Line, linesOf}
 use Rattle.plan_text.specs.TextQuestions.{maxText}
 use Rattle.plan_text.specs.Reading.{reading}
 use Rattle.moves_text.specs.Division.{planPart, eventPart}
-use Rattle.moves_text.specs.EventLines.{countedIn, eventsIn}
+use Rattle.moves_text.specs.EventLines.{countedIn, eventIn, eventsIn}
 use Rattle.moves_text.specs.OutputLines.{eventLine, aboutPlan, listAfterLine}
-use Rattle.moves_text.specs.Prints.{concatenated, tableAfter, lineFor, Answered, Prints}
+use Rattle.moves_text.specs.Prints.{concatenated, EachMeans, tableAfter, lineFor, Answered, Prints}
 use Rattle.moves_text.specs.Output.{Reply, replyTo, repliesTo, printedFrom, output}
 use Rattle.moves_text.proofs.Divided.{input-divided}
+use Rattle.moves_text.proofs.LineMeanings.{line-means}
 use Rattle.moves_text.proofs.Replies.{repliesIn, events-parts, list-parts, list-after, replies-parts, replies-length}
 
 -- the lines of replies, with ordinals from n on
@@ -74,6 +76,11 @@ module _ (p : Plan) where
       rw (replies-parts p emptyList before (l ∷ after), lines-parts 1 early late)
       (entry-at (linesFrom 1 early) _ _ [] (length before) there ∙ reply-printed before l)
 
+-- what is computed of each line is what it means
+each-means : (ls : List Line) → EachMeans ls (map eventIn ls)
+each-means [] = tt
+each-means (l ∷ ls) = (line-means l, each-means ls)
+
 pub output-prints : (input : List ℕ) → Prints input (output input)
 unfolding output
 output-prints input = record { answered = answered; too-long = λ h. rw (lt-leb (length input) maxText h) refl }
@@ -87,6 +94,8 @@ output-prints input = record { answered = answered; too-long = λ h. rw (lt-leb 
           plan = planPart input;
           events = eventPart input;
           divided = input-divided input;
+          meanings = map eventIn (linesOf (eventPart input));
+          meant = each-means (linesOf (eventPart input));
           lines = linesFrom 1 (repliesIn input);
           printed = rw (le-leb (length input) maxText h) (ap (λ out. aboutPlan (reading (planPart input)) ++ out) (lines-joined 1 (repliesIn input)));
           one-each = lines-length 1 (repliesIn input) ∙ replies-length p emptyList (countedIn (eventPart input));

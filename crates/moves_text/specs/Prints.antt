@@ -10,16 +10,25 @@ use Rattle.events.specs.JobList.{emptyList}
 use Rattle.events.specs.declared.Event.{Event}
 use Rattle.events.specs.declared.JobList.{JobList}
 use Rattle.emptying.specs.Run.{listAfterAll}
+use Rattle.plan_text.specs.Lines.{Line, linesOf}
 use Rattle.plan_text.specs.TextQuestions.{maxText}
 use Rattle.plan_text.specs.Reading.{reading}
 use Rattle.moves_text.specs.Quoted.{quoted}
 use Rattle.moves_text.specs.Division.{Divides}
-use Rattle.moves_text.specs.EventLines.{countedIn, eventsIn}
+use Rattle.moves_text.specs.EventLines.{Means, counted, eventsIn}
 use Rattle.moves_text.specs.OutputLines.{eventLine, aboutPlan, answerTo}
+use Rattle.moves_text.specs.declared.EventLine.{EventLine}
 
 abbrev pub concatenated : List (List ℕ) → List ℕ
 concatenated [] = []
 concatenated (l ∷ ls) = l ++ concatenated ls
+
+-- these are what the lines mean, each its own
+abbrev pub EachMeans : List Line → List EventLine → Type 0
+EachMeans [] [] = Unit {0}
+EachMeans [] (m ∷ ms) = ⊥
+EachMeans (l ∷ ls) [] = ⊥
+EachMeans (l ∷ ls) (m ∷ ms) = Means l m × EachMeans ls ms
 
 -- the table after counted lines: that after the events of the well-formed ones, from the empty table
 abbrev pub tableAfter : Plan → List (Option Event) → JobList
@@ -31,15 +40,17 @@ lineFor p before l =
     let a = answerTo p (tableAfter p before) l in
     eventLine (length before + 1) (a .0) (a .1) (tableAfter p (before ++ l ∷ []) .count)
 
--- an input of at most 65,536 bytes: the lines about its plan, and one for each counted event line, in order
+-- an input of at most 65,536 bytes: the lines about its plan, and one for each counted event line, in order. A line means one thing (`meaning-unique`)
 pub record Answered (input out : List ℕ) : Type 0 where
   pub plan : List ℕ
   pub events : List ℕ
   pub divided : Divides input plan events
+  pub meanings : List EventLine
+  pub meant : EachMeans (linesOf events) meanings
   pub lines : List (List ℕ)
   pub printed : out ≡ aboutPlan (reading plan) ++ concatenated lines
-  pub one-each : length lines ≡ length (countedIn events)
-  pub each : (s : Split (countedIn events)) → entry lines (length (s .before) + 1) [] ≡ lineFor (reading plan .plan) (s .before) (s .item)
+  pub one-each : length lines ≡ length (counted meanings)
+  pub each : (s : Split (counted meanings)) → entry lines (length (s .before) + 1) [] ≡ lineFor (reading plan .plan) (s .before) (s .item)
 
 -- what is printed of an input; of a longer one its refusal alone
 pub record Prints (input out : List ℕ) : Type 0 where
