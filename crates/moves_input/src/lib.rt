@@ -6,8 +6,8 @@ use events::Event;
 use moves_text::EventLine;
 use plan_text::Fields;
 use read_fields::fields_of;
-use read_letters::is_skipped;
-use read_letters::letter_of;
+use read_fields::is_skipped;
+use read_fields::letter_of;
 use read_lines::line_end;
 
 // The line is exactly `E` and its LF.

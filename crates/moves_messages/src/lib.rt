@@ -6,7 +6,7 @@ ghost use lib.ListN.{length};
 ghost use Rattle.moves_text.specs.Message.{visible, shownAfter, messageWith, textMessage, message};
 ghost use Rattle.moves_text.specs.Buffer.{overlaid, overlaidAt};
 use moves_input::plan_length;
-use moves_meanings::put_meaning;
+use moves_words::put_meaning;
 use plan_numbers::text_number;
 use plan_text::TextAnswer;
 use read_lines::part_of;

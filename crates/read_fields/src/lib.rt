@@ -1,6 +1,6 @@
-// The fields of a line of text, and their numbers.
+// A line of text: is it skipped, its letter, its fields and their numbers.
 ghost use mathlib.Core.Path.{_≡_};
-ghost use Rattle.plan_text.specs.Lines.{columns, fieldsIn};
+ghost use Rattle.plan_text.specs.Lines.{isSkipped, columns, letterIn, letterByte, fieldsIn};
 ghost use Rattle.plan_text.specs.Records.{fieldsRead};
 ghost use Rattle.plan_text.specs.ReaderInternals.{valueRead};
 use bytes::scan::find;
@@ -8,6 +8,34 @@ use plan_text::Fields;
 
 // What is read of a field that is no number; 5 digits never say it.
 const NO_NUMBER: u32 = 100000;
+
+// A line that is empty or begins with `#`.
+pub fn is_skipped(line: &[u8]) -> bool
+    ensures { λ r. ⌜ r ≡ isSkipped (now (line .entry)) ⌝ }
+{
+    if line.len() < 1 {
+        return true;
+    }
+    line[0] == b'#'
+}
+
+// The letter is one byte where the line is, or where a tab is next; a line that begins with a tab has none.
+pub fn letter_of(line: &[u8]) -> u8
+    ensures { λ r. ⌜ r ≡ letterByte (letterIn (columns (now (line .entry)))) ⌝ }
+{
+    if line.len() < 1 {
+        return 0;
+    }
+    if line[0] == b'\t' {
+        return 0;
+    }
+    if 1 < line.len() {
+        if line[1] != b'\t' {
+            return 0;
+        }
+    }
+    line[0]
+}
 
 // The number that 1 to 5 digits say.
 pub fn number(digits: &[u8]) -> u32

@@ -12,8 +12,8 @@ use plan_text::Form;
 use plan_text::Record;
 use plan_text::TextAnswer;
 use read_fields::fields_of;
-use read_letters::is_skipped;
-use read_letters::letter_of;
+use read_fields::is_skipped;
+use read_fields::letter_of;
 use read_ranges::field_count;
 
 fn is_plain_byte(b: u8) -> bool

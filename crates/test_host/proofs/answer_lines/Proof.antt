@@ -48,16 +48,16 @@ use denote.Triple.Table.{entered, cited}
 use denote.Triple.Walked.{Stays, stay-dropped, walkOf, AllGo, goes-dropped, Walks, ends-at, walked, walk-meets}
 use denote.Exit.{yes}
 use Rattle.plan_text.specs.LineReading.{spanFrom}
-use Rattle.line_reader.specs.declared.LineReader.{LineReader}
-use Rattle.line_reader.specs.declared.TextLine.{TextLine}
+use Rattle.read_lines.specs.declared.LineReader.{LineReader}
+use Rattle.read_lines.specs.declared.TextLine.{TextLine}
 use Rattle.plan_bytes.specs.declared.Frame.{Frame}
 use Rattle.events.specs.declared.Event.{Event}
 use Rattle.events.specs.declared.Answer.{Answer}
 use Rattle.admission.specs.declared.Table.{Table}
-use Rattle.line_reader.proofs.LineReader as D
-use Rattle.line_reader.proofs.LineReader.Laws as D′
-use Rattle.line_reader.proofs.TextLine as R
-use Rattle.line_reader.proofs.TextLine.Laws as R′
+use Rattle.read_lines.proofs.LineReader as D
+use Rattle.read_lines.proofs.LineReader.Laws as D′
+use Rattle.read_lines.proofs.TextLine as R
+use Rattle.read_lines.proofs.TextLine.Laws as R′
 use Rattle.plan_bytes.proofs.Frame as F
 use Rattle.plan_bytes.proofs.Frame.Laws as F′
 use Rattle.events.proofs.Event as E
@@ -69,12 +69,12 @@ use Rattle.admission.proofs.Table.Laws as T′
 use Rattle.admission.proofs.Table.empty.Symbol as empty-def
 use Rattle.admission.proofs.Table.empty.Symbol.{name as #empty}
 use Rattle.admission.proofs.Table.empty.Met as empty-thm
-use Rattle.line_reader.proofs.LineReader.new.Symbol as new-def
-use Rattle.line_reader.proofs.LineReader.new.Symbol.{name as #new}
-use Rattle.line_reader.proofs.LineReader.new.Met as new-thm
-use Rattle.line_reader.proofs.LineReader.next.Symbol as next-def
-use Rattle.line_reader.proofs.LineReader.next.Symbol.{name as #next}
-use Rattle.line_reader.proofs.LineReader.next.Met as next-thm
+use Rattle.read_lines.proofs.LineReader.new.Symbol as new-def
+use Rattle.read_lines.proofs.LineReader.new.Symbol.{name as #new}
+use Rattle.read_lines.proofs.LineReader.new.Met as new-thm
+use Rattle.read_lines.proofs.LineReader.next.Symbol as next-def
+use Rattle.read_lines.proofs.LineReader.next.Symbol.{name as #next}
+use Rattle.read_lines.proofs.LineReader.next.Met as next-thm
 use Rattle.table_lent.proofs.apply.Symbol as apply-def
 use Rattle.table_lent.proofs.apply.Symbol.{name as #apply}
 use Rattle.table_lent.proofs.apply.Met as apply-thm
@@ -403,8 +403,8 @@ answer-lines-spec 𝓤 H 𝓜 𝓖 𝓡 =
     (tables 𝓤 H 𝓜 𝓡 code.env .C) (tables 𝓤 H 𝓜 𝓡 code.env .Λ) #answer-lines code.function (code.unfolded 𝓤 H 𝓜 𝓡)
     (answer-lines-meets 𝓤 H (𝓖 .A) (givenOf 𝓤 H 𝓜 𝓖) (𝓜 .mem) (𝓡 .run) (tablesOf 𝓤 H 𝓜 (tables 𝓤 H 𝓜 𝓡 code.env))
     (cited 𝓤 H (Empty 𝓤 H (𝓖 .A) (𝓜 .mem) (𝓡 .run)) 𝓜 𝓡 code.env #empty empty-def.routine code.calls-admission·Table·empty (empty-thm.met 𝓤 H 𝓜 𝓖 𝓡))
-    (cited 𝓤 H (New 𝓤 H (𝓖 .A) (𝓜 .mem) (𝓡 .run)) 𝓜 𝓡 code.env #new new-def.routine code.calls-line-reader·LineReader·new (new-thm.met 𝓤 H 𝓜 𝓖 𝓡))
-    (cited 𝓤 H (Next 𝓤 H (𝓖 .A) (𝓜 .mem) (𝓡 .run)) 𝓜 𝓡 code.env #next next-def.routine code.calls-line-reader·LineReader·next (next-thm.met 𝓤 H 𝓜 𝓖 𝓡))
+    (cited 𝓤 H (New 𝓤 H (𝓖 .A) (𝓜 .mem) (𝓡 .run)) 𝓜 𝓡 code.env #new new-def.routine code.calls-read-lines·LineReader·new (new-thm.met 𝓤 H 𝓜 𝓖 𝓡))
+    (cited 𝓤 H (Next 𝓤 H (𝓖 .A) (𝓜 .mem) (𝓡 .run)) 𝓜 𝓡 code.env #next next-def.routine code.calls-read-lines·LineReader·next (next-thm.met 𝓤 H 𝓜 𝓖 𝓡))
     (cited 𝓤 H (EventIn 𝓤 H (𝓖 .A) (𝓜 .mem) (𝓡 .run)) 𝓜 𝓡 code.env #event event-def.routine code.calls-test-host·event-in (event-thm.met 𝓤 H 𝓜 𝓖 𝓡))
     (cited 𝓤 H (Apply 𝓤 H (𝓖 .A) (𝓜 .mem) (𝓡 .run)) 𝓜 𝓡 code.env #apply apply-def.routine code.calls-table-lent·apply (apply-thm.met 𝓤 H 𝓜 𝓖 𝓡))
     (cited 𝓤 H (Tell 𝓤 H (𝓖 .A) (𝓜 .mem) (𝓡 .run)) 𝓜 𝓡 code.env #tell tell-def.routine code.calls-test-host·tell (tell-thm.met 𝓤 H 𝓜 𝓖 𝓡)))

@@ -40,15 +40,15 @@ use denote.Struct.Steps.{spelt}
 use denote.Triple.Statement.{Contract}
 use denote.Triple.Clauses.{ensured, lasts}
 use denote.Triple.Spec.{tripleOf}
-use Rattle.line_reader.specs.LineReads.{Read, Reads, readOf, readNext, readOn, atStart}
-use Rattle.line_reader.proofs.ToEnd.{less-left}
-use Rattle.line_reader.specs.declared.LineReader.{LineReader}
-use Rattle.line_reader.specs.declared.TextLine.{TextLine}
-use Rattle.line_reader.proofs.LineReader as D
-use Rattle.line_reader.proofs.LineReader.Laws as D′
-use Rattle.line_reader.proofs.TextLine as R
-use Rattle.line_reader.proofs.LineReader.new as new
-use Rattle.line_reader.proofs.LineReader.next as next
+use Rattle.read_lines.specs.LineReads.{Read, Reads, readOf, readNext, readOn, atStart}
+use Rattle.read_lines.proofs.ToEnd.{less-left}
+use Rattle.read_lines.specs.declared.LineReader.{LineReader}
+use Rattle.read_lines.specs.declared.TextLine.{TextLine}
+use Rattle.read_lines.proofs.LineReader as D
+use Rattle.read_lines.proofs.LineReader.Laws as D′
+use Rattle.read_lines.proofs.TextLine as R
+use Rattle.read_lines.proofs.LineReader.new as new
+use Rattle.read_lines.proofs.LineReader.next as next
 
 -- 'a, as `next`'s signature names it
 abbrev pub α : Lft → NamedLft

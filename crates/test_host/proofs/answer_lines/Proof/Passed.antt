@@ -34,9 +34,9 @@ use denote.Triple.Spec.{tripleOf}
 use Rattle.events.specs.declared.Event.{Event}
 use Rattle.events.specs.declared.Answer.{Answer}
 use Rattle.admission.specs.declared.Table.{Table}
-use Rattle.line_reader.specs.declared.TextLine.{TextLine}
-use Rattle.line_reader.proofs.TextLine as R
-use Rattle.line_reader.proofs.TextLine.Laws as R′
+use Rattle.read_lines.specs.declared.TextLine.{TextLine}
+use Rattle.read_lines.proofs.TextLine as R
+use Rattle.read_lines.proofs.TextLine.Laws as R′
 use Rattle.events.proofs.Event as E
 use Rattle.events.proofs.Answer as N
 use Rattle.events.proofs.Answer.Laws as N′

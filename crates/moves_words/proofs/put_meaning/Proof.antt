@@ -7,8 +7,8 @@ use borrow.Author.Needs.{needs}
 use Rattle.plan_text.specs.declared.TextAnswer.{TextAnswer}
 use Rattle.moves_text.specs.Message.{meaning}
 use Rattle.moves_text.proofs.Overlays.{Put, put-as}
-use Rattle.moves_meanings.proofs.put_meaning.Statement.{statement}
-use Rattle.moves_meanings.proofs.put_meaning.Tie as tie
+use Rattle.moves_words.proofs.put_meaning.Statement.{statement}
+use Rattle.moves_words.proofs.put_meaning.Tie as tie
 
 told : (s : tie.Start) {x : TextAnswer} {n : ℕ} {next : List ℕ} → s .args .answer ≡ x → Put (s .args .at) (meaning x) (now (s .args .buffer)) n next
     → Put (s .args .at) (meaning (s .args .answer)) (now (s .args .buffer)) n next

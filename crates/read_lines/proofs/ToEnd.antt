@@ -13,9 +13,9 @@ use Rattle.plan_text.specs.Lines.{Line, linesOf}
 use Rattle.plan_text.specs.declared.LineSpan.{LineSpan}
 use Rattle.plan_text.proofs.LineByLine.{no-line}
 use Rattle.plan_text.proofs.LineReading.{span-over, span-there, line-read, next-further, over-told, left-told}
-use Rattle.line_reader.specs.LineReads.{atStart, readNext, readOn, ReadToEnd}
-use Rattle.line_reader.specs.LineReads.ReadToEnd.{over, line}
-use Rattle.line_reader.specs.declared.LineReader.{LineReader}
+use Rattle.read_lines.specs.LineReads.{atStart, readNext, readOn, ReadToEnd}
+use Rattle.read_lines.specs.LineReads.ReadToEnd.{over, line}
+use Rattle.read_lines.specs.declared.LineReader.{LineReader}
 
 -- the lines that are left to a reader
 abbrev left : LineReader → List Line

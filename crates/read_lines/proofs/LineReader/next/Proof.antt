@@ -49,27 +49,27 @@ use denote.Triple.Walked.{says, Stays, stay-ref, walkOf, goes-ref, Walks, ends-a
 use Rattle.plan_text.specs.LineReading.{spanFrom}
 use Rattle.plan_text.specs.TextParts.{IsPart}
 use Rattle.plan_text.specs.declared.LineSpan.{LineSpan}
-use Rattle.line_reader.specs.LineReads.{Reads}
-use Rattle.line_reader.specs.declared.LineReader.{LineReader}
-use Rattle.line_reader.specs.declared.TextLine.{TextLine}
-use Rattle.line_reader.proofs.LineReader as T
-use Rattle.line_reader.proofs.LineReader.Laws as T′
-use Rattle.line_reader.proofs.TextLine as R
-use Rattle.line_reader.proofs.TextLine.Laws as R′
+use Rattle.read_lines.specs.LineReads.{Reads}
+use Rattle.read_lines.specs.declared.LineReader.{LineReader}
+use Rattle.read_lines.specs.declared.TextLine.{TextLine}
+use Rattle.read_lines.proofs.LineReader as T
+use Rattle.read_lines.proofs.LineReader.Laws as T′
+use Rattle.read_lines.proofs.TextLine as R
+use Rattle.read_lines.proofs.TextLine.Laws as R′
 use Rattle.plan_text.proofs.LineSpan as P
 use Rattle.plan_text.proofs.LineSpan.Laws as P′
 use Rattle.read_lines.proofs.line_at as line-at
 use Rattle.read_lines.proofs.line_at.Symbol as line-at-def
 use Rattle.read_lines.proofs.line_at.Symbol.{name as #line-at}
 use Rattle.read_lines.proofs.line_at.Met as line-at-thm
 use Rattle.read_lines.proofs.part_of as part-of
 use Rattle.read_lines.proofs.part_of.Symbol as part-of-def
 use Rattle.read_lines.proofs.part_of.Symbol.{name as #part-of}
 use Rattle.read_lines.proofs.part_of.Met as part-of-thm
-use Rattle.line_reader.proofs.LineReader.next.Key.{name as #next}
-use Rattle.line_reader.proofs.LineReader.next as next
-use Rattle.line_reader.proofs.LineReader.next.Statement as stated
-use Rattle.line_reader.proofs.LineReader.next.Code as code
+use Rattle.read_lines.proofs.LineReader.next.Key.{name as #next}
+use Rattle.read_lines.proofs.LineReader.next as next
+use Rattle.read_lines.proofs.LineReader.next.Statement as stated
+use Rattle.read_lines.proofs.LineReader.next.Code as code
 
 -- 'a, and the reader's type at it
 abbrev α : Lft → NamedLft

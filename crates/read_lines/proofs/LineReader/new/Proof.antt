@@ -34,13 +34,13 @@ use denote.Triple.Spec.{Meets, tripleOf}
 use denote.Triple.Table.{entered}
 use denote.Triple.Walked.{says, Stays, stay-none-slice, walkOf, goes-none-slice, Walks, ends-at, walked, walk-meets}
 use denote.Exit.{yes}
-use Rattle.line_reader.specs.declared.LineReader.{LineReader}
-use Rattle.line_reader.proofs.LineReader as T
-use Rattle.line_reader.proofs.LineReader.Laws as T′
-use Rattle.line_reader.proofs.LineReader.new.Key.{name as #new}
-use Rattle.line_reader.proofs.LineReader.new as new
-use Rattle.line_reader.proofs.LineReader.new.Statement as stated
-use Rattle.line_reader.proofs.LineReader.new.Code as code
+use Rattle.read_lines.specs.declared.LineReader.{LineReader}
+use Rattle.read_lines.proofs.LineReader as T
+use Rattle.read_lines.proofs.LineReader.Laws as T′
+use Rattle.read_lines.proofs.LineReader.new.Key.{name as #new}
+use Rattle.read_lines.proofs.LineReader.new as new
+use Rattle.read_lines.proofs.LineReader.new.Statement as stated
+use Rattle.read_lines.proofs.LineReader.new.Code as code
 
 abbrev stayed : Stays (new.ended .signature .params) (new.ended .kept)
 stayed = (stay-none-slice (0 ∷ []) tt (plain (λ _. u8)) yes, tt)

@@ -7,8 +7,8 @@ use denote.Ref.{RefT, now}
 use Rattle.plan_text.specs.Lines.{Line}
 use Rattle.plan_text.specs.LineReading.{spanFrom, lineFrom}
 use Rattle.plan_text.specs.TextParts.{IsPart}
-use Rattle.line_reader.specs.declared.LineReader.{LineReader}
-use Rattle.line_reader.specs.declared.TextLine.{TextLine}
+use Rattle.read_lines.specs.declared.LineReader.{LineReader}
+use Rattle.read_lines.specs.declared.TextLine.{TextLine}
 
 -- a line as it was read, and whether the text was at its end
 pub record Read : Type 0 where

@@ -1,8 +1,8 @@
 -- An empty line is skipped, and else the first byte decides.
 use borrow.Author.Needs.{needs}
-use Rattle.read_letters.proofs.Letter.{skipped-empty, skipped-first}
-use Rattle.read_letters.proofs.is_skipped.Statement.{statement}
-use Rattle.read_letters.proofs.is_skipped.Tie as tie
+use Rattle.read_fields.proofs.Letter.{skipped-empty, skipped-first}
+use Rattle.read_fields.proofs.is_skipped.Statement.{statement}
+use Rattle.read_fields.proofs.is_skipped.Tie as tie
 
 returns : tie.Need-returns
 returns c = skipped-empty (c .before .args .line .now) (c .if1 .taken)

@@ -5,10 +5,10 @@ use mathlib.Core.Logic.{⊎-elim}
 use mathlib.Core.Path.{_≡_}
 use lib.ListN.{length, getD}
 use Rattle.plan_text.specs.Lines.{tab}
-use Rattle.read_letters.proofs.Letter.{no-byte, tab-first, two-bytes, one-byte}
+use Rattle.read_fields.proofs.Letter.{no-byte, tab-first, two-bytes, one-byte}
 use borrow.Author.Needs.{needs}
-use Rattle.read_letters.proofs.letter_of.Statement.{statement}
-use Rattle.read_letters.proofs.letter_of.Tie as tie
+use Rattle.read_fields.proofs.letter_of.Statement.{statement}
+use Rattle.read_fields.proofs.letter_of.Tie as tie
 
 returns : tie.Need-returns
 returns c = no-byte (c .before .args .line .now) (c .if1 .taken)

@@ -1,2 +1,0 @@
--- The laws behind the code that looks at a line's first bytes.
-pub mod Letter
