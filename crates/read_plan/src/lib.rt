@@ -1,4 +1,4 @@
-// The reader of plan texts: one pass over the lines. A line's questions are answered from the counts, the capacities, the stages
+// The reader of plan texts, and the line that a refusal is about: one pass over the lines. A line's questions are answered from the counts, the capacities, the stages
 // per type and the one entry that it names, and its record writes that entry.
 ghost use mathlib.Core.List.{[]};
 ghost use mathlib.Core.Path.{_≡_};
@@ -7,6 +7,7 @@ ghost use lib.Dec.{ltb};
 ghost use lib.ListN.{length, take, drop};
 ghost use Rattle.plan_bytes.specs.Over.{planOver};
 ghost use Rattle.plan_text.specs.Lines.{linesOf};
+ghost use Rattle.plan_text.specs.TextParts.{IsShown};
 ghost use Rattle.plan_text.specs.Draft.{emptyDraft, indexNamed};
 ghost use Rattle.plan_text.specs.Reading.{refused, isComplete, readFrom, reading};
 ghost use Rattle.plan_text.specs.Framed.{readingFrom};
@@ -29,6 +30,7 @@ use read_held::all_bounded;
 use read_held::index_named;
 use read_held::record_answer;
 use read_lines::line_end;
+use read_lines::part_of;
 
 fn refusal(answer: TextAnswer, line: u32, from: usize, to: usize) -> FramedReading
     ensures { λ r. ⌜ readingFrom r ≡ refused answer line from to ⌝ }
@@ -165,4 +167,14 @@ pub fn read(text: &[u8]) -> FramedReading
         return refusal(TextAnswer::TooLong, 0, 0, 0);
     }
     read_lines(text)
+}
+
+// The line that a refusal is about, as a part of the text; empty where it is about none.
+pub fn shown_line(text: &[u8]) -> &[u8]
+    ensures { λ r. ⌜ IsShown (text .entry) (reading (now (text .entry))) r ⌝ }
+{
+    let reading = read(text);
+    let from = reading.from;
+    let to = reading.to;
+    part_of(text, from, to)
 }

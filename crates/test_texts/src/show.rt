@@ -4,7 +4,7 @@
 use libc::STDOUT_FILENO;
 use plan_numbers::text_number;
 use read_plan::read;
-use read_shown::shown_line;
+use read_plan::shown_line;
 
 pub(crate) fn write(s: &[u8]) {
     io::write_all(STDOUT_FILENO, s);

@@ -3,8 +3,8 @@ use mathlib.Core.Path.{subst}
 use borrow.Author.Needs.{needs}
 use Rattle.plan_text.specs.TextParts.{IsShown}
 use Rattle.plan_text.specs.declared.Reading.{Reading}
-use Rattle.read_shown.proofs.shown_line.Statement.{statement}
-use Rattle.read_shown.proofs.shown_line.Tie as tie
+use Rattle.read_plan.proofs.shown_line.Statement.{statement}
+use Rattle.read_plan.proofs.shown_line.Tie as tie
 
 read-requires : tie.Need-read-requires
 read-requires c κs = search needs
