@@ -57,7 +57,7 @@ module _ (p : Plan) (buffer : List ℕ) where
       → Sections (suc i) (n + m) next
   section-more i {n} {m} {now} done same put =
       put-as 0 buffer (sym (text-append (listTo i (sectionRecords p)) (sectionRecords p (suc i))))
-      (put-then 0 (textOf (listTo i (sectionRecords p))) (textOf (sectionRecords p (suc i))) buffer {place = n} (omega arith) done (put-as n now same put))
+      (put-then 0 (textOf (listTo i (sectionRecords p))) (textOf (sectionRecords p (suc i))) buffer {offset = n} (omega arith) done (put-as n now same put))
 
   pub sections-length : (i : ℕ) {n : ℕ} {now : List ℕ} → Sections i n now → length now ≡ length buffer
   sections-length i done = ap length (done .1) ∙ overlaid-length (textOf (listTo i (sectionRecords p))) buffer

@@ -130,9 +130,9 @@ four-stored at a b c d bytes h =
     rw (second, third, fourth) (sets-overlaid at (a ∷ b ∷ c ∷ d ∷ []) bytes h)
 
 -- what is laid behind what was laid
-pub behind : (at : ℕ) (done new bytes : List ℕ) {place : ℕ} {now next : List ℕ} → place ≡ at + length done → now ≡ overlaidAt at done bytes
-    → next ≡ overlaidAt place new now → next ≡ overlaidAt at (done ++ new) bytes
-behind at done new bytes {place} e w put = laid-then at done new bytes {end = place + length new} (e, w) (refl, put) .1
+pub behind : (at : ℕ) (done new bytes : List ℕ) {offset : ℕ} {now next : List ℕ} → offset ≡ at + length done → now ≡ overlaidAt at done bytes
+    → next ≡ overlaidAt offset new now → next ≡ overlaidAt at (done ++ new) bytes
+behind at done new bytes {offset} e w put = laid-then at done new bytes {end = offset + length new} (e, w) (refl, put) .1
 
 -- the first i entries lie in the bytes from an offset on
 module _ {A : Type 0} (write : A → List ℕ) (size from : ℕ) (xs : List A) (bytes : List ℕ) where
@@ -147,9 +147,9 @@ module _ {A : Type 0} (write : A → List ℕ) (size from : ℕ) (xs : List A) (
   more-written i d {at} {now} there w long e put =
       let new = write (getD xs i d) in
       let more = joined-more write xs i d there in
-      let place : at ≡ from + length (bytesOfEach write (take i xs)) = e ∙ ap (λ k. from + k) (sym (w .0)) in (
+      let offset : at ≡ from + length (bytesOfEach write (take i xs)) = e ∙ ap (λ k. from + k) (sym (w .0)) in (
         ap length more ∙ length-append (bytesOfEach write (take i xs)) new ∙ ap (λ k. k + length new) (w .0) ∙ ap (λ k. size * i + k) long ∙ sym (mul-suc size i),
-        behind from (bytesOfEach write (take i xs)) new bytes place (w .1) put ∙ ap (λ bs. overlaidAt from bs bytes) (sym more),
+        behind from (bytesOfEach write (take i xs)) new bytes offset (w .1) put ∙ ap (λ bs. overlaidAt from bs bytes) (sym more),
       )
 
   pub all-written : (i : ℕ) {now : List ℕ} → length xs ≤ i → Written i now → now ≡ overlaidAt from (bytesOfEach write xs) bytes

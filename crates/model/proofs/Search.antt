@@ -51,7 +51,7 @@ module _ (f : ℕ → Bool) where
       passed : lowest n f ≡ i + 1 → lowest (suc n) f ≡ i + 1
       passed e = rw (ne-eqb (lowest n f) 0 (λ z. omega (arith, e))) e
 
--- a search for the greatest goes to the end: by one of two branches the next number takes the place of the one found, or does not
+-- a search for the greatest goes to the end: by one of two branches the next number is taken for the one found, or is not
 module _ (f : ℕ → ℕ) (i : ℕ) {found : ℕ × ℕ} (so-far : greatest i f ≡ found) {P Q : Type 0} {number value : ℕ} where
   pub greatest-more : (P → (found .1 < f (suc i)) × (number ≡ i + 1) × (value ≡ f (suc i)))
       → (Q → (f (suc i) ≤ found .1) × (number ≡ found .0) × (value ≡ found .1))

@@ -1,7 +1,7 @@
 -- The plan as a resource allocation system, Definition 1 of source document 003: resources with their capacities, job
 -- types made of stages, and a demand of units for each stage. Resources, types, stages and rows are named by their
 -- numbers, from 1. Stages follow in number order, so a job that is allowed to go on ends after finitely many (Condition 1:
--- of the route alone, for under a plan that locks it may never be allowed) and every stage of a type is on its route
+-- of the route alone, for under a plan that deadlocks it may never be allowed) and every stage of a type is on its route
 -- (Condition 2).
 use Prim.Native.Nat.{ℕ, _+_, _-_, _≤_}
 use mathlib.Core.Bool.{Bool, cond, _&&_}

@@ -101,11 +101,11 @@ Put at text buffer n next = (n ≡ length text) × (next ≡ overlaidAt at text 
 pub none-put : (at : ℕ) (buffer : List ℕ) → Put at [] buffer 0 buffer
 none-put at buffer = (refl, none-laid at buffer .1)
 
-pub put-then : (at : ℕ) (done new buffer : List ℕ) {place n m : ℕ} {now next : List ℕ} → place ≡ at + n → Put at done buffer n now
-    → Put place new now m next → Put at (done ++ new) buffer (n + m) next
-put-then at done new buffer {place} {n} {m} behind w put = (
+pub put-then : (at : ℕ) (done new buffer : List ℕ) {offset n m : ℕ} {now next : List ℕ} → offset ≡ at + n → Put at done buffer n now
+    → Put offset new now m next → Put at (done ++ new) buffer (n + m) next
+put-then at done new buffer {offset} {n} {m} behind w put = (
   omega (arith, w .0, put .0, length-append done new),
-  laid-then at done new buffer {at = place} {end = place + m} (omega (arith, w .0), w .1) (omega (arith, put .0), put .1) .1,
+  laid-then at done new buffer {at = offset} {end = offset + m} (omega (arith, w .0), w .1) (omega (arith, put .0), put .1) .1,
 )
 
 pub put-as : (at : ℕ) (buffer : List ℕ) {text same : List ℕ} {n : ℕ} {next : List ℕ} → text ≡ same → Put at text buffer n next → Put at same buffer n next

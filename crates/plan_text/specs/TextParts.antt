@@ -10,10 +10,10 @@ use Rattle.plan_text.specs.declared.Reading.{Reading}
 abbrev pub partStart : List ℕ → ℕ → ℕ → ℕ
 partStart text from to = min from (min to (length text))
 
--- the bytes of the text from one offset up to another, at their own place in memory
+-- the bytes of the text from one offset up to another, at their own address
 pub record IsPart (text : RefT (List ℕ)) (from to : ℕ) (part : RefT (List ℕ)) : Type 0 where
   pub bytes : now part ≡ take (to - from) (drop from (now text))
-  pub place : part .ptr ≡ (text .ptr .0, text .ptr .1 + partStart (now text) from to)
+  pub address : part .ptr ≡ (text .ptr .0, text .ptr .1 + partStart (now text) from to)
 
 -- the part that a reading shows (`shownIn`), in the caller's own text
 abbrev pub IsShown : RefT (List ℕ) → Reading → RefT (List ℕ) → Type 0

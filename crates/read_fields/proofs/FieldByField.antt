@@ -17,7 +17,7 @@ use Rattle.read_fields.proofs.Digits.{read-none, read-some}
 abbrev pub fieldsAfter : List ℕ → ℕ → List (List ℕ)
 fieldsAfter line at = partsAfter tab (drop at line)
 
--- a place of the line at which a search that starts at another ends
+-- an offset of the line at which a search that starts at another ends
 abbrev pub TabFound : List ℕ → ℕ → ℕ → Type 0
 TabFound line from end = end ≡ from + indexOf tab (slice from (length line) line)
 

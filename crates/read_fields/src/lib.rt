@@ -7,7 +7,7 @@ use bytes::scan::find;
 use plan_text::Fields;
 
 // What is read of a field that is no number; 5 digits never say it.
-const NO_NUMBER: u32 = 100000;
+const NO_VALUE: u32 = 100000;
 
 // A line that is empty or begins with `#`.
 pub fn is_skipped(line: &[u8]) -> bool
@@ -38,24 +38,24 @@ pub fn letter_of(line: &[u8]) -> u8
 }
 
 // The number that 1 to 5 digits say.
-pub fn number(digits: &[u8]) -> u32
+pub fn value_read(digits: &[u8]) -> u32
     ensures { λ r. ⌜ r ≡ valueRead (now (digits .entry)) ⌝ }
 {
     if digits.len() < 1 {
-        return NO_NUMBER;
+        return NO_VALUE;
     }
     if 5 < digits.len() {
-        return NO_NUMBER;
+        return NO_VALUE;
     }
     let mut x: u32 = 0;
     let mut i = 0;
     while i < digits.len() {
         let b = digits[i];
         if b < b'0' {
-            return NO_NUMBER;
+            return NO_VALUE;
         }
         if b'9' < b {
-            return NO_NUMBER;
+            return NO_VALUE;
         }
         x = 10 * x + (b - b'0') as u32;
         i += 1;
@@ -72,8 +72,8 @@ pub fn fields_of(line: &[u8]) -> Fields
     let mut at = find(line, 0, line.len(), b'\t');
     while at < line.len() {
         let end = find(line, at + 1, line.len(), b'\t');
-        let x = number(&line[at + 1..end]);
-        if x == NO_NUMBER {
+        let x = value_read(&line[at + 1..end]);
+        if x == NO_VALUE {
             return Fields { count: 5, numbers };
         }
         if count == 4 {

@@ -94,7 +94,7 @@ pub extern "C" fn rilthoss_shown(text: &[u8]) -> u64
     from + 4294967296 * to
 }
 
-// The canonical text of the plan, written into the buffer; the place is its length.
+// The canonical text of the plan, written into the buffer; beside the number stands its length.
 #[no_mangle]
 pub extern "C" fn rilthoss_write_plan<'a>(cell: &'a [u8], buffer: &'a mut [u8]) -> u64
     ensures { λ r. ⌜ (r ≡ writeAnswer (now (cell .entry)) (now (buffer .entry))) × (now (buffer .exit) ≡ writtenBuffer (now (cell .entry)) (now (buffer .entry))) ⌝ }

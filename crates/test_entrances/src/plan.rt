@@ -17,9 +17,9 @@ pub(crate) fn empty_plan() -> Plan {
 
 // An entry of a stage: the demands, then the weights.
 fn with_entry(p: Plan, stage: u32, entry: usize, x: u32) -> Plan {
-    let place = (stage as usize + 127) % 128 * 64 + entry % 64;
+    let offset = (stage as usize + 127) % 128 * 64 + entry % 64;
     let mut next = p;
-    next.stages[place] = (x % 256) as u8;
+    next.stages[offset] = (x % 256) as u8;
     next
 }
 

@@ -19,7 +19,7 @@ fn lengths() -> [u8; 16] {
 // Type 1 goes over the resources 1, 2, 3 and type 2 over 3, 2, 1, counted from 0.
 const ROUTES: [usize; 6] = [0, 1, 2, 2, 1, 0];
 
-// Each stage demands one unit, at the place of its resource among its 64 bytes.
+// Each stage demands one unit, at the byte of its resource among its 64.
 pub(crate) fn stages() -> [u8; 8192] {
     let mut stages = [0; 8192];
     let mut i = 0;

@@ -42,7 +42,7 @@ pub fn put_number(n: u32, buffer: &mut [u8], at: usize) -> usize
     put_text(&digits[..k], buffer, at)
 }
 
-// A number and the byte after it; the place after both.
+// A number and the byte after it; the offset after both.
 fn put_field(n: u32, after: u8, buffer: &mut [u8], at: usize) -> usize
     requires { ⌜ at ≤ 9223372036854776000 ⌝ }
     ensures { λ r. ⌜ (r ≡ at + length (decimal n ++ after ∷ [])) × (now (buffer .exit) ≡ overlaidAt at (decimal n ++ after ∷ []) (now (buffer .entry))) ⌝ }

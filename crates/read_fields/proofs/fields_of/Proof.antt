@@ -20,7 +20,7 @@ abbrev μ-loop : tie.MeasureT-loop
 μ-loop line numbers₀ count₀ at₀ numbers count at = length line - at
 
 -- where a field has been read
-module _ (c : tie.After-number Inv-loop μ-loop) where
+module _ (c : tie.After-value-read Inv-loop μ-loop) where
   abbrev head : tie.At-loop Inv-loop μ-loop
   head = c .before .before .before .before
 
@@ -55,20 +55,20 @@ add-find c = omega arith
 find-requires-2 : tie.Need-find-requires-2 Inv-loop μ-loop
 find-requires-2 c κs = omega arith
 
-add-number : tie.Need-add-number Inv-loop μ-loop
-add-number c = omega arith
+add-value-read : tie.Need-add-value-read Inv-loop μ-loop
+add-value-read c = omega arith
 
-sub-number : tie.Need-sub-number Inv-loop μ-loop
-sub-number c = omega arith
+sub-value-read : tie.Need-sub-value-read Inv-loop μ-loop
+sub-value-read c = omega arith
 
-part-number-start : tie.Need-part-number-start Inv-loop μ-loop
-part-number-start c = omega arith
+part-value-read-start : tie.Need-part-value-read-start Inv-loop μ-loop
+part-value-read-start c = omega arith
 
-part-number-end : tie.Need-part-number-end Inv-loop μ-loop
-part-number-end c = omega arith
+part-value-read-end : tie.Need-part-value-read-end Inv-loop μ-loop
+part-value-read-end c = omega arith
 
-number-requires : tie.Need-number-requires Inv-loop μ-loop
-number-requires c κs = omega arith
+value-read-requires : tie.Need-value-read-requires Inv-loop μ-loop
+value-read-requires c κs = omega arith
 
 mul-numbers : tie.Need-mul-numbers Inv-loop μ-loop
 mul-numbers c = omega arith
@@ -86,20 +86,20 @@ loop-again : tie.Need-loop-again Inv-loop μ-loop
 loop-again c =
     let h = c .before .before in
     let k = head h .loop in
-    let next = field-next (k .count) (h .number .result) (k .numbers) (field h) (fieldsAfter (line h) (end h)) (h .number .ensures) in
+    let next = field-next (k .count) (h .value-read .result) (k .numbers) (field h) (fieldsAfter (line h) (end h)) (h .value-read .ensures) in
     (search needs, omega arith, left h ∙ next (c .before .if1 .left) (omega arith))
 
 returns : tie.Need-returns Inv-loop μ-loop
 returns c =
     let h = c .before in
     let k = head h .loop in
-    sym (left h ∙ field-bad (k .count) (h .number .result) (k .numbers) (field h) (fieldsAfter (line h) (end h)) (h .number .ensures) (c .if1 .taken))
+    sym (left h ∙ field-bad (k .count) (h .value-read .result) (k .numbers) (field h) (fieldsAfter (line h) (end h)) (h .value-read .ensures) (c .if1 .taken))
 
 returns-2 : tie.Need-returns-2 Inv-loop μ-loop
 returns-2 c =
     let h = c .before .before in
     let k = head h .loop in
-    sym (left h ∙ field-fifth (k .count) (h .number .result) (k .numbers) (field h) (fieldsAfter (line h) (end h)) (h .number .ensures) (c .if2 .taken))
+    sym (left h ∙ field-fifth (k .count) (h .value-read .result) (k .numbers) (field h) (fieldsAfter (line h) (end h)) (h .value-read .ensures) (c .if2 .taken))
 
 returns-3 : tie.Need-returns-3 Inv-loop μ-loop
 returns-3 c =
@@ -117,11 +117,11 @@ fields-of-spec =
     loop-holds
     add-find
     find-requires-2
-    add-number
-    sub-number
-    part-number-start
-    part-number-end
-    number-requires
+    add-value-read
+    sub-value-read
+    part-value-read-start
+    part-value-read-end
+    value-read-requires
     returns
     returns-2
     mul-numbers

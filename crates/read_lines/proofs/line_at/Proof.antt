@@ -21,8 +21,8 @@ abbrev told : List ℕ → ℕ → ℕ → ℕ → LineSpan
 told text at end next = record { end = end; next = next; ended = ltb end (length text); over = leb (length text) at }
 
 module _ (text : List ℕ) (at end next : ℕ) (e : end ≡ spanFrom text at .end) where
-  is-place : (b : Bool) → ltb end (length text) ≡ b → next ≡ cond b (end + 1) end → told text at end next ≡ spanFrom text at
-  is-place b is after =
+  is-span : (b : Bool) → ltb end (length text) ≡ b → next ≡ cond b (end + 1) end → told text at end next ≡ spanFrom text at
+  is-span b is after =
       ap (told text at end) (after ∙ sym (ap (λ (x : Bool). cond x (end + 1) end) is))
       ∙ ap (λ (n : ℕ). told text at n (cond (ltb n (length text)) (n + 1) n)) e
       ∙ sym (span-by-end text at)
@@ -37,7 +37,7 @@ returns : tie.Need-returns
 returns c =
     let f = c .before in
     let a = f .before .before .args in
-    let is = is-place (now (a .text)) (a .at) (f .line-end .result) (c .if1 .next) (f .line-end .ensures) in
+    let is = is-span (now (a .text)) (a .at) (f .line-end .result) (c .if1 .next) (f .line-end .ensures) in
     ⊎-elim (λ w. is true (w .0 .taken) (w .1)) (λ w. is false (w .0 .left) (w .1)) (c .if1 .came)
 
 pub line-at-spec : {M : Type 1} → statement M

@@ -56,7 +56,7 @@ returns c =
     let start = c .before .at-most2 in
     record {
       bytes = same-bytes (now (a .text)) (a .from) (a .to) (end .result) (start .result) (end .ensures) (start .ensures);
-      place = λ i. (a .text .ptr .0, there (now (a .text)) (a .from) (a .to) (end .result) (start .result) (end .ensures) (start .ensures) (a .text .ptr .1) i);
+      address = λ i. (a .text .ptr .0, there (now (a .text)) (a .from) (a .to) (end .result) (start .result) (end .ensures) (start .ensures) (a .text .ptr .1) i);
     }
 
 pub part-of-spec : {M : Type 1} → statement M

@@ -10,8 +10,8 @@ use Rattle.plan_text.specs.Records.{isDigit}
 use Rattle.plan_text.specs.ReaderInternals.{noValue, valueRead}
 use Rattle.plan_text.proofs.LineForm.{digit-below}
 use Rattle.read_fields.proofs.Digits.{digitsOn, digit-next, digit-bad, digits-end, digits-small}
-use Rattle.read_fields.proofs.number.Statement.{statement}
-use Rattle.read_fields.proofs.number.Tie as tie
+use Rattle.read_fields.proofs.value_read.Statement.{statement}
+use Rattle.read_fields.proofs.value_read.Tie as tie
 
 abbrev Inv-loop : tie.InvT-loop
 Inv-loop digits x₀ i₀ x i = (i ≤ length digits) × (x < 10 ^ i) × (valueRead digits ≡ digitsOn x (drop i digits))
@@ -90,8 +90,8 @@ loop-again c =
 returns-5 : tie.Need-returns-5 Inv-loop μ-loop
 returns-5 c = let h = c .before in sym (h .loop .inv .2 ∙ digits-end (digits h) (i h) (x h) (omega arith))
 
-pub number-spec : {M : Type 1} → statement M
-number-spec =
+pub value-read-spec : {M : Type 1} → statement M
+value-read-spec =
     tie.close
     (tie.spec
     Inv-loop
