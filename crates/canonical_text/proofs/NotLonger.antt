@@ -7,19 +7,19 @@ use mathlib.Core.Bool.{Bool, true, false, cond, false≢true}
 use mathlib.Core.List.{List, [], _∷_, _++_, map}
 use mathlib.Core.Logic.{_≢_, inl, inr}
 use mathlib.Core.Path.{_≡_, refl, sym, ap, subst, _∙_}
-use lib.ListN.{length, take, length-append}
+use lib.ListN.{length, length-append}
 use Rattle.model.specs.Numbers.{InRange, Each}
 use Rattle.model.specs.Questions.{Condition, EachCondition, AllHold, FirstFailure}
 use Rattle.model.proofs.Decide.{Holds, conditions-split, conditions-append}
 use Rattle.model.proofs.Lists.{each-map}
 use Rattle.plan_text.specs.Lines.{Line, lineEnd, tab, splitBy, linesIn, linesOf, isSkipped, columns, letterIn, fieldsIn}
-use Rattle.plan_text.specs.Records.{sections, sectionOf, IsNumeral, valueOn, fieldsRead, recordIn, keyOf, Has}
+use Rattle.plan_text.specs.Records.{sections, sectionOf, IsNumeral, valueOn, recordIn, keyOf, Has}
 use Rattle.plan_text.specs.TextQuestions.{maxText, textNumber, IsRecord, recordsOf, WellFielded, startAfter, lineConditions, linesConditions, lastConditions, textConditions}
 use Rattle.plan_text.specs.Reading.{reading}
 use Rattle.plan_text.specs.declared.Record.{Record}
 use Rattle.plan_text.specs.declared.Reading.{Reading}
 use Rattle.plan_text.proofs.Split.{joinedBy, split-some, split-joined}
-use Rattle.plan_text.proofs.LineForm.{few-fields, numbers-told, numbers-four, number-below, record-in}
+use Rattle.plan_text.proofs.LineForm.{number-below, fielded-numbers, record-in}
 use Rattle.plan_text.proofs.RecordLists.{has-each}
 use Rattle.plan_text.proofs.FirstFailure.{reading-first-failure}
 use Rattle.plan_text.proofs.SamePlan.{accepted-says}
@@ -137,12 +137,7 @@ module _ (l : Line) (taken : Taken l) (is : IsRecord l) where
   -- the record's fields are those of the line, trimmed
   fields-told : fieldsOf (recordIn (l .bytes)) ≡ map trimmed fields
   fields-told =
-      let fielded = taken .fielded is in
-      let xs = fieldsRead fields .numbers in
-      ap fieldsOf (record-in (l .bytes) is)
-      ∙ (λ i. map decimal (take (sym (fielded .0) i) (numbers-four fields i)))
-      ∙ ap (map decimal) (numbers-told fields (omega (arith, fielded .0, few-fields (sectionOf letter))) (fielded .1))
-      ∙ trimmed-each fields
+      ap fieldsOf (record-in (l .bytes) is) ∙ ap (map decimal) (fielded-numbers fields (sectionOf letter) (taken .fielded is)) ∙ trimmed-each fields
 
   -- so its line is no longer
   record-short : length (recordText (recordIn (l .bytes))) ≤ length (l .bytes) + 1

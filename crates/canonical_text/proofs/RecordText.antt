@@ -1,22 +1,22 @@
 -- A record's line is read as that record: its parts are the letter and the fields, the letter is that of its section, and the digits of
 -- each field say its number.
-use Prim.Native.Nat.{ℕ, _+_, _≤_, _<_}
+use Prim.Native.Nat.{ℕ, zero, suc, _≤_, _<_}
 use native.Mathlib.Omega.{arith}
 use mathlib.Core.Bool.{true, false}
 use mathlib.Core.List.{List, [], _∷_, _++_, map, append-assoc}
 use mathlib.Core.Logic.{_≢_, inl, inr}
-use mathlib.Core.Path.{_≡_, refl, sym, ap, subst, _∙_}
-use lib.ListN.{length, take, drop, getD, length-drop, take-append-drop}
+use mathlib.Core.Path.{_≡_, refl, _∙_}
+use lib.ListN.{length, take, drop, length-map}
 use lib.Seq.{length-take-le}
-use lib.ListN.{length-map}
 use Rattle.model.specs.Numbers.{InRange, entry, Each}
 use Rattle.model.proofs.Lists.{append-each, each-map}
 use Rattle.plan_text.specs.Lines.{Line, lineEnd, tab, linesOf, isSkipped, Plain, columns, letterIn, splitBy}
-use Rattle.plan_text.specs.Records.{letters, sections, sectionOf, layoutOf, Digit, IsNumeral, valueOn, fieldsRead, recordWith, recordIn, numbersOf}
+use Rattle.plan_text.specs.Records.{letters, sections, sectionOf, layoutOf, Digit, IsNumeral, valueOn, recordWith, recordIn, numbersOf}
+use Rattle.plan_text.specs.Meaning.{line}
 use Rattle.plan_text.specs.TextQuestions.{recordsOf, WellFormed, WellFielded}
 use Rattle.plan_text.specs.declared.Record.{Record}
 use Rattle.plan_text.proofs.Split.{joinedBy, split-alone, split-then}
-use Rattle.plan_text.proofs.LineForm.{few-fields, numbers-told, numbers-four, fielded-blank, record-in}
+use Rattle.plan_text.proofs.LineForm.{few-fields, record-in}
 use Rattle.plan_text.proofs.Sections.{one-of-seven, Blank}
 use Rattle.moves_text.specs.Decimals.{decimal, lineWith}
 use Rattle.moves_text.proofs.Decimals.{decimal-is, decimal-short}
@@ -81,21 +81,15 @@ numbers-back : (xs : List ℕ) → map (valueOn 0) (map decimal xs) ≡ xs
 numbers-back [] = refl
 numbers-back (x ∷ xs) = rw (decimal-is x .2, numbers-back xs) refl
 
--- lists of the same size that are the same at first and 0 after that
-zeros-same : (xs ys : List ℕ) → length xs ≡ length ys → Each (λ (x : ℕ). x ≡ 0) xs → Each (λ (x : ℕ). x ≡ 0) ys → xs ≡ ys
-zeros-same [] [] e h k = refl
-zeros-same [] (y ∷ ys) e h k = absurd (omega arith)
-zeros-same (x ∷ xs) [] e h k = absurd (omega arith)
-zeros-same (x ∷ xs) (y ∷ ys) e h k = rw (h .0, k .0, zeros-same xs ys (omega arith) (h .1) (k .1)) refl
-
-first-same : (m : ℕ) (xs ys : List ℕ) → length xs ≡ length ys → take m xs ≡ take m ys → Each (λ (x : ℕ). x ≡ 0) (drop m xs)
-    → Each (λ (x : ℕ). x ≡ 0) (drop m ys) → xs ≡ ys
-first-same m xs ys size e h k =
-    let rest = zeros-same (drop m xs) (drop m ys) (omega (arith, length-drop m xs, length-drop m ys, size)) h k in
-    sym (take-append-drop m xs) ∙ (λ i. e i ++ rest i) ∙ take-append-drop m ys
-
-same-record : (q r : Record) → q .section ≡ r .section → numbersOf q ≡ numbersOf r → q ≡ r
-same-record q r e f = λ i. record { section = e i; first = getD (f i) 0 0; second = getD (f i) 1 0; third = getD (f i) 2 0; fourth = getD (f i) 3 0 }
+-- the first numbers of a record are enough where the others are 0
+numbers-enough : (m section a b c d : ℕ) → m ≤ 4 → Each (λ (x : ℕ). x ≡ 0) (drop m (a ∷ b ∷ c ∷ d ∷ []))
+    → recordWith section (take m (a ∷ b ∷ c ∷ d ∷ [])) ≡ line section a b c d
+numbers-enough zero section a b c d few z = cc
+numbers-enough (suc zero) section a b c d few z = cc
+numbers-enough (suc (suc zero)) section a b c d few z = cc
+numbers-enough (suc (suc (suc zero))) section a b c d few z = cc
+numbers-enough (suc (suc (suc (suc zero)))) section a b c d few z = refl
+numbers-enough (suc (suc (suc (suc (suc m))))) section a b c d few z = absurd (omega arith)
 
 module _ (r : Record) (s : CanonicalFits r) where
   abbrev letter : IsLetter (r .section)
@@ -143,25 +137,10 @@ module _ (r : Record) (s : CanonicalFits r) where
   pub line-fielded : WellFielded (recordLine r)
   line-fielded = rw (section-told, line-parts) (fields-counted, fields-numbers)
 
-  -- the numbers of the fields
-  abbrev read : List ℕ
-  read = fieldsRead (fieldsOf r) .numbers
-
-  read-first : take count read ≡ take count (numbersOf r)
-  read-first =
-      ap (λ n. take n read) (sym fields-counted)
-      ∙ numbers-told (fieldsOf r) (omega (arith, fields-counted, few-fields (r .section))) fields-numbers
-      ∙ numbers-back (take count (numbersOf r))
-
   pub record-back : recordIn (lineBytes r) ≡ r
   record-back =
-      let fours : numbersOf (recordWith (r .section) read) ≡ read = numbers-four (fieldsOf r) in
-      let blank : Each (λ (x : ℕ). x ≡ 0) (drop count read) =
-      subst (λ xs. Each (λ (x : ℕ). x ≡ 0) (drop count xs)) fours (fielded-blank (fieldsOf r) (r .section) (fields-counted, fields-numbers)) in
-      let size : length read ≡ 4 = ap length (sym fours) in
       record-in (lineBytes r) is-record
-      ∙ rw (section-told, line-parts)
-      (same-record (recordWith (r .section) read) r refl (fours ∙ first-same count read (numbersOf r) size read-first blank (s .blank)))
+      ∙ rw (section-told, line-parts, numbers-back (take count (numbersOf r))) (numbers-enough count (r .section) (r .first) (r .second) (r .third) (r .fourth) (few-fields (r .section)) (s .blank))
 
 -- the lines and the records of what was written
 pub lines-back : (rs : List Record) → Each CanonicalFits rs → linesOf (textOf rs) ≡ map recordLine rs

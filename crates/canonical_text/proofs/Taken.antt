@@ -16,7 +16,8 @@ use Rattle.model.specs.declared.Plan.{Plan}
 use Rattle.model.proofs.Decide.{decided, holds, passes, decides-eq}
 use Rattle.model.proofs.Lists.{each-map}
 use Rattle.model.proofs.Sums.{sum-mono}
-use Rattle.plan_text.specs.Records.{sections, layoutOf, Known, knownOf, numbersOf, keyOf, Has}
+use Rattle.plan_text.specs.Records.{sections, layoutOf, numbersOf, keyOf, Has}
+use Rattle.plan_text.specs.RecordTests.{Known, knownOf}
 use Rattle.plan_text.specs.ReaderInternals.{InKnown}
 use Rattle.plan_text.specs.Draft.{Draft, emptyDraft, put, draftOf, draftAfter, heldIn}
 use Rattle.plan_text.specs.TextQuestions.{lastSection, Follows, InRanges, FirstWithKey, WithinTotal}

@@ -14,9 +14,10 @@ use Rattle.events.specs.declared.Event.the-variants.{Load, Advance, Unload, Pul
 use Rattle.model.specs.Numbers.{Each}
 use Rattle.model.proofs.Decide.{holds, passes, decides-eq, _and_}
 use Rattle.plan_text.specs.Lines.{Line, wider, tab, hash, isSkipped, columns, letterIn, letterByte, fieldsIn}
-use Rattle.plan_text.specs.Records.{IsNumeral, fieldsRead}
+use Rattle.plan_text.specs.Records.{IsNumeral}
+use Rattle.plan_text.specs.RecordTests.{fieldsRead}
 use Rattle.plan_text.proofs.Split.{split-some}
-use Rattle.plan_text.proofs.LineForm.{decides-number, decides-numbers}
+use Rattle.plan_text.proofs.LineForm.{decides-numeral, decides-numbers}
 use Rattle.moves_text.specs.EventLines.{FieldSays, LineSays, Means, eventWith, eventIn}
 use Rattle.moves_text.specs.declared.EventLine.{EventLine}
 use Rattle.moves_text.specs.declared.EventLine.the-variants.{Skipped, Malformed, Given}
@@ -53,7 +54,7 @@ one-field : (letter : ℕ) (ps : List (List ℕ)) → ps ≢ [] → Lettered ps 
     → (f : List ℕ) × (ps ≡ (letter ∷ []) ∷ f ∷ []) × FieldSays f (number ps 0)
 one-field letter [] some h = absurd (some refl)
 one-field letter (p ∷ []) some h = absurd (omega (arith, h .many))
-one-field letter (p ∷ f ∷ []) some h = (f, rw (h .head) refl, (h .each .0, rw (passes (decides-number f) (h .each .0)) refl))
+one-field letter (p ∷ f ∷ []) some h = (f, rw (h .head) refl, (h .each .0, rw (passes (decides-numeral f) (h .each .0)) refl))
 one-field letter (p ∷ f ∷ g ∷ fs) some h = absurd (omega (arith, h .many))
 
 two-fields : (letter : ℕ) (ps : List (List ℕ)) → ps ≢ [] → Lettered ps letter 2
@@ -62,8 +63,8 @@ two-fields letter [] some h = absurd (some refl)
 two-fields letter (p ∷ []) some h = absurd (omega (arith, h .many))
 two-fields letter (p ∷ f ∷ []) some h = absurd (omega (arith, h .many))
 two-fields letter (p ∷ f ∷ g ∷ []) some h =
-    let first = passes (decides-number f) (h .each .0) in
-    let second = passes (decides-number g) (h .each .1 .0) in
+    let first = passes (decides-numeral f) (h .each .0) in
+    let second = passes (decides-numeral g) (h .each .1 .0) in
     (f, g, rw (h .head) refl, (h .each .0, rw (first, second) refl), (h .each .1 .0, rw (first, second) refl))
 two-fields letter (p ∷ f ∷ g ∷ k ∷ fs) some h = absurd (omega (arith, h .many))
 
@@ -93,10 +94,10 @@ event-read bytes = go (passed ps 76 2) (passed ps 65 1) (passed ps 85 1) (passed
 -- and one that is written is read
 event-written : (bytes : List ℕ) (e : Event) → LineSays bytes e → eventOf (columns bytes) ≡ Given e
 event-written bytes (Load n t) (f, g, whole, says, also) =
-    rw (whole, passes (decides-number f) (says .0), passes (decides-number g) (also .0), says .1, also .1) refl
-event-written bytes (Advance n) (f, whole, says) = rw (whole, passes (decides-number f) (says .0), says .1) refl
-event-written bytes (Unload n) (f, whole, says) = rw (whole, passes (decides-number f) (says .0), says .1) refl
-event-written bytes (Pull n) (f, whole, says) = rw (whole, passes (decides-number f) (says .0), says .1) refl
+    rw (whole, passes (decides-numeral f) (says .0), passes (decides-numeral g) (also .0), says .1, also .1) refl
+event-written bytes (Advance n) (f, whole, says) = rw (whole, passes (decides-numeral f) (says .0), says .1) refl
+event-written bytes (Unload n) (f, whole, says) = rw (whole, passes (decides-numeral f) (says .0), says .1) refl
+event-written bytes (Pull n) (f, whole, says) = rw (whole, passes (decides-numeral f) (says .0), says .1) refl
 
 -- the first byte of a skipped line's letter is `#`, if there is one, so it writes no event
 skipped-letter : (bytes : List ℕ) → isSkipped bytes ≡ true → getD (letterIn (columns bytes)) 0 hash ≡ hash

@@ -9,7 +9,8 @@ use lib.ListN.{getD}
 use Rattle.events.specs.declared.Event.{Event}
 use Rattle.events.specs.declared.Event.the-variants.{Load, Advance, Unload, Pull}
 use Rattle.plan_text.specs.Lines.{Line, linesOf, isSkipped, columns, letterIn, letterByte, fieldsIn}
-use Rattle.plan_text.specs.Records.{IsNumeral, valueOn, fieldsRead}
+use Rattle.plan_text.specs.Records.{IsNumeral, valueOn}
+use Rattle.plan_text.specs.RecordTests.{fieldsRead}
 use Rattle.plan_text.specs.declared.Fields.{Fields}
 use Rattle.moves_text.specs.Quoted.{quoted}
 use Rattle.moves_text.specs.declared.EventLine.{EventLine}

@@ -12,7 +12,8 @@ use Rattle.model.specs.Soundness.{EmptyStage, AllRanked, NoneRanked, SoundStage
 use Rattle.model.specs.declared.Plan.{Plan}
 use Rattle.model.proofs.Decide.{Decides, decided, holds, decides-iff, decides-eq, decides-le, decides-all, _and_}
 use Rattle.model.proofs.Soundness.{decides-sound, decides-empty-stage}
-use Rattle.plan_text.specs.Records.{knownOf, Has}
+use Rattle.plan_text.specs.Records.{Has}
+use Rattle.plan_text.specs.RecordTests.{knownOf}
 use Rattle.plan_text.specs.ReaderInternals.{InKnown}
 use Rattle.plan_text.specs.Draft.{Draft, emptyDraft, draftOf}
 use Rattle.plan_text.specs.TextQuestions.{IsResource, Complete}

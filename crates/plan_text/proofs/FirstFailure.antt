@@ -2,7 +2,7 @@
 -- draft goes on with the line's record.
 use Prim.Native.Nat.{ℕ, _+_, _-_, _<_}
 use native.Mathlib.Omega.{arith}
-use mathlib.Core.Bool.{Bool, true, false, cond, _||_, false≢true}
+use mathlib.Core.Bool.{Bool, true, false, cond, _&&_, _||_, false≢true}
 use mathlib.Core.List.{List, [], _∷_, _++_, append-assoc, append-nil}
 use mathlib.Core.Logic.{⊎-elim}
 use mathlib.Core.Path.{_≡_, refl, sym, ap, subst, _∙_}
@@ -11,12 +11,14 @@ use lib.ListN.{length, take, drop, length-append}
 use lib.Seq.{set-getD}
 use borrow.Author.Tests.{eqb-true}
 use Rattle.bytes.specs.Bytes.{slice, indexOf}
+use Rattle.model.specs.Numbers.{each}
 use Rattle.model.specs.Questions.{Condition, AllHold, FirstFailure}
 use Rattle.model.specs.Plan.{noStage}
 use Rattle.model.proofs.Decide.{Decides, holding, decided, passes, decides-iff, decides-le, decides-lt}
 use Rattle.model.proofs.Decide.{Answers, done, asked, choose, failure-append, Holds, conditions-split, first-failure-then}
 use Rattle.plan_text.specs.Lines.{Line, lineEnd, linesOf, isSkipped, columns, letterIn, fieldsIn}
-use Rattle.plan_text.specs.Records.{knownOf, recordIn, noRecord, inRanges, sectionOf, fieldsRead, layoutOf}
+use Rattle.plan_text.specs.Records.{recordIn, noRecord, sectionOf, layoutOf}
+use Rattle.plan_text.specs.RecordTests.{isNumeral, knownOf, inRanges}
 use Rattle.plan_text.specs.Draft.{Draft, emptyDraft, indexNamed, draftAfter, draftAfterAll, draftOf, planOf, heldIn}
 use Rattle.plan_text.specs.Meaning.{RecordsSaySoFar}
 use Rattle.plan_text.specs.TextQuestions.{textNumber, RefusesText, IsRecord, recordsOf, startAfter, Follows, WellFielded, InRanges, FirstWithKey, WithinTotal, lastSection}
@@ -75,6 +77,9 @@ module _ (text : List ℕ) (rs : List Record) (kept : Kept rs (draftOf rs)) (n f
   abbrev r : Record
   r = recordIn (l .bytes)
 
+  abbrev fields : List (List ℕ)
+  fields = fieldsIn (columns (l .bytes))
+
   one-more : draftOf (rs ++ r ∷ []) ≡ draftAfter d r
   one-more = draft-more emptyDraft rs (r ∷ [])
 
@@ -88,10 +93,10 @@ module _ (text : List ℕ) (rs : List Record) (kept : Kept rs (draftOf rs)) (n f
       (λ e. rw (section-of e, ← (kept .last)) (decides-follows (d .section) (sectionOf (letterIn (columns (l .bytes))))))
 
   met-four : Decides (IsRecord l → WellFielded l)
-      (isSkipped (l .bytes) || eqb (fieldsRead (fieldsIn (columns (l .bytes))) .count) (length (layoutOf (r .section))))
+      (isSkipped (l .bytes) || (eqb (length fields) (length (layoutOf (r .section))) && each isNumeral fields))
   met-four =
       decides-record (isSkipped (l .bytes))
-      (λ e. rw (section-of e) (decides-fielded (fieldsIn (columns (l .bytes))) (sectionOf (letterIn (columns (l .bytes))))))
+      (λ e. rw (section-of e) (decides-fielded fields (length (layoutOf (sectionOf (letterIn (columns (l .bytes))))))))
 
   met-five : Decides (IsRecord l → InRanges rs r) (inRanges (knownOf (d .plan)) r)
   unfolding inRanges
@@ -140,7 +145,7 @@ module _ (text : List ℕ) (rs : List Record) (kept : Kept rs (draftOf rs)) (n f
         record {
           follows = three e;
           ranges = ranges-told rs d kept r .1 (all .1 .1 .1 .0 e);
-          blank = rw (record-in (l .bytes) e) (fielded-blank (fieldsIn (columns (l .bytes))) (sectionOf (letterIn (columns (l .bytes)))) (all .1 .1 .0 e));
+          blank = rw (record-in (l .bytes) e) (fielded-blank fields (sectionOf (letterIn (columns (l .bytes)))) (all .1 .1 .0 e));
           first = nothing-held (all .1 .0) (all .1 .1 .1 .0) e (all .1 .1 .1 .1 .0 e);
           total = all .1 .1 .1 .1 .1 .0 e;
         }
@@ -250,9 +255,9 @@ module _ (text : List ℕ) where
       failure-append (FirstFailure (Accepts text) seven) asked-here rest _
       (first-failure-then isOk _ (FirstFailure (FirstFailure (Accepts text) seven) rest) answers
       (λ hold.
-      let place = start-append before l in
-      let goes = later (kept-more before l kept hold) (rw place (next-lines text (startAfter before) l ls here)) in
-      rw (length-append, place, draft-after before l kept hold) at goes))
+      let starts = start-append before l in
+      let goes = later (kept-more before l kept hold) (rw starts (next-lines text (startAfter before) l ls here)) in
+      rw (length-append, starts, draft-after before l kept hold) at goes))
 
   right-from : (ls before : List Line) → KeptLines before → linesOf (drop (startAfter before) text) ≡ ls → before ++ ls ≡ lines → Right before ls
   right-from [] before kept here all =

@@ -18,8 +18,8 @@ use Rattle.model.specs.declared.Plan.{Plan}
 use Rattle.model.proofs.Decide.{decided, decides-eq, decides-le}
 use Rattle.model.proofs.Flat.{index-of-stage}
 use Rattle.model.proofs.Lists.{replicated}
-use Rattle.plan_text.specs.Records.{sections, Known, knownOf}
-use Rattle.plan_text.specs.Records.{Has}
+use Rattle.plan_text.specs.Records.{sections, Has}
+use Rattle.plan_text.specs.RecordTests.{Known, knownOf}
 use Rattle.plan_text.specs.ReaderInternals.{InKnown}
 use Rattle.plan_text.specs.Draft.{Draft, emptyDraft, put, withDemand, withWeight, typeNamed, stageNamed, indexNamed}
 use Rattle.plan_text.specs.Draft.{entriesAfter, boundedAfter, stageAfterRecord, stageHere}

@@ -15,9 +15,9 @@ use Rattle.model.specs.Plan.{noStage, emptyPlan, allStages}
 use Rattle.model.specs.declared.Plan.{Plan}
 use Rattle.model.proofs.Decide.{decided, decides-eq}
 use Rattle.model.proofs.Lists.{replicated, append-each, each-map}
-use Rattle.plan_text.specs.Records.{Field, between, resource, kind, row, stage, units, Known, knownOf, highestIn, Has}
+use Rattle.plan_text.specs.Records.{Field, between, resource, kind, row, stage, units, layoutOf, numbersOf, Has}
+use Rattle.plan_text.specs.RecordTests.{Known, knownOf, highestIn}
 use Rattle.plan_text.specs.ReaderInternals.{FieldsInKnown, InKnown}
-use Rattle.plan_text.specs.Records.{layoutOf, numbersOf}
 use Rattle.plan_text.specs.Draft.{Draft, emptyDraft, entriesAfter, stageHere, draftAfter, heldIn}
 use Rattle.plan_text.specs.TextQuestions.{lastSection, stagesIn}
 use Rattle.plan_text.specs.Meaning.{line}

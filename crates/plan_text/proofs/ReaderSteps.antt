@@ -20,7 +20,8 @@ use Rattle.model.specs.declared.Stage.{Stage}
 use Rattle.model.proofs.Decide.{decided, decides-eq, decides-le, holds}
 use Rattle.model.proofs.Flat.{sum-up-to}
 use Rattle.plan_text.specs.Lines.{Line}
-use Rattle.plan_text.specs.Records.{Known, knownOf, recordIn, inRanges}
+use Rattle.plan_text.specs.Records.{recordIn}
+use Rattle.plan_text.specs.RecordTests.{Known, knownOf, inRanges}
 use Rattle.plan_text.specs.ReaderInternals.{InKnown}
 use Rattle.plan_text.specs.Draft.{Draft, put, indexNamed, entriesAfter, boundedAfter, stageAfterRecord, draftAfter, heldIn, ofSection}
 use Rattle.plan_text.specs.Reading.{refused, formQuestions, withinTotal, recordQuestions, ofLine, readFrom}
@@ -251,14 +252,14 @@ module _ (k : Known) (r : Record) (met : inRanges k r ≡ true) where
   unfolding indexNamed
   index-within size few = go (decided (decides-eq (r .section) 4)) (decided (decides-eq (r .section) 6))
     where
-      place : (n : ℕ) → r .section ≡ n → indexNamed (k .lengths) (line n (r .first) (r .second) (r .third) (r .fourth)) < maxAllStages
+      named : (n : ℕ) → r .section ≡ n → indexNamed (k .lengths) (line n (r .first) (r .second) (r .third) (r .fourth)) < maxAllStages
           → indexNamed (k .lengths) r < maxAllStages
-      place n e h = subst (λ q. indexNamed (k .lengths) q < maxAllStages) (sym (of-section n r e)) h
+      named n e h = subst (λ q. indexNamed (k .lengths) q < maxAllStages) (sym (of-section n r e)) h
 
       ranges : (n : ℕ) → r .section ≡ n → InKnown k (line n (r .first) (r .second) (r .third) (r .fourth))
       ranges n e = subst (InKnown k) (of-section n r e) (holds (decides-ranges k r) met)
 
       go : (r .section ≡ 4) ⊎ (¬ (r .section ≡ 4)) → (r .section ≡ 6) ⊎ (¬ (r .section ≡ 6)) → indexNamed (k .lengths) r < maxAllStages
-      go (inl e) b = place 4 e (stage-fits size few (r .first) (r .second) (ranges 4 e .0) (ranges 4 e .1 .0))
-      go (inr a) (inl e) = place 6 e (stage-fits size few (r .second) (r .third) (ranges 6 e .1 .0) (ranges 6 e .1 .1 .0))
+      go (inl e) b = named 4 e (stage-fits size few (r .first) (r .second) (ranges 4 e .0) (ranges 4 e .1 .0))
+      go (inr a) (inl e) = named 6 e (stage-fits size few (r .second) (r .third) (ranges 6 e .1 .0) (ranges 6 e .1 .1 .0))
       go (inr a) (inr b) = rw (ne-eqb (r .section) 4 a, ne-eqb (r .section) 6 b) (omega arith)

@@ -13,8 +13,8 @@ use Rattle.model.specs.Numbers.{InRange, at, sumTo, Each}
 use Rattle.model.specs.Plan.{emptyPlan, allStages, boundOf, stageOf}
 use Rattle.model.specs.declared.Plan.{Plan}
 use Rattle.model.proofs.Decide.{Decides, holding, failing, decided, decides-iff, decides-eq, decides-le, _and_}
-use Rattle.plan_text.specs.Records.{Field, between, resource, kind, row, stage, units, Known, knownOf, fitsFields, lowestIn, highestIn, inRanges}
-use Rattle.plan_text.specs.Records.{layoutOf, numbersOf, keyOf, Some, Has, sections}
+use Rattle.plan_text.specs.Records.{Field, between, resource, kind, row, stage, units, layoutOf, numbersOf, keyOf, Some, Has, sections}
+use Rattle.plan_text.specs.RecordTests.{Known, knownOf, fitsFields, lowestIn, highestIn, inRanges}
 use Rattle.plan_text.specs.Draft.{Draft, emptyDraft, heldIn}
 use Rattle.plan_text.specs.TextQuestions.{IsResource, IsType, IsRow, IsStageOf, InField, InFields, InRanges, FirstWithKey, WithinTotal}
 use Rattle.plan_text.specs.Reading.{withinTotal}

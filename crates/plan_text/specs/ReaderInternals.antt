@@ -8,7 +8,8 @@ use Rattle.model.specs.Questions.{ask, answerOf}
 use Rattle.model.specs.declared.Stage.{Stage}
 use Rattle.model.specs.declared.Plan.{Plan}
 use Rattle.plan_text.specs.Lines.{Line}
-use Rattle.plan_text.specs.Records.{sectionC, sectionB, Field, layoutOf, Known, lowestIn, highestIn, isNumeral, valueOn, noRecord, recordIn, numbersOf, inRanges}
+use Rattle.plan_text.specs.Records.{sectionC, sectionB, Field, layoutOf, valueOn, noRecord, recordIn, numbersOf}
+use Rattle.plan_text.specs.RecordTests.{Known, lowestIn, highestIn, isNumeral, inRanges}
 use Rattle.plan_text.specs.Draft.{Draft, ofSection}
 use Rattle.plan_text.specs.TextQuestions.{isAccepted}
 use Rattle.plan_text.specs.Reading.{formQuestions, withinTotal}

@@ -11,7 +11,8 @@ use Rattle.model.specs.Plan.{emptyPlan}
 use Rattle.model.specs.Soundness.{sound}
 use Rattle.model.specs.declared.Plan.{Plan}
 use Rattle.plan_text.specs.Lines.{Line, linesOf, isSkipped, isPlain, columns, fieldsIn}
-use Rattle.plan_text.specs.Records.{sections, sectionC, sectionT, layoutOf, knownOf, fieldsRead, recordIn, inRanges}
+use Rattle.plan_text.specs.Records.{sections, sectionC, sectionT, layoutOf, recordIn}
+use Rattle.plan_text.specs.RecordTests.{isNumeral, knownOf, inRanges}
 use Rattle.plan_text.specs.Draft.{Draft, emptyDraft, draftAfter, heldIn}
 use Rattle.plan_text.specs.TextQuestions.{maxText}
 use Rattle.plan_text.specs.declared.Record.{Record}
@@ -30,13 +31,14 @@ accepted p = record { answer = Accepted; line = 0; from = 0; to = 0; plan = p }
 abbrev pub follows : ℕ → ℕ → Bool
 follows last section = inRange section sections && leb last section && (ltb 0 last || eqb section sectionC)
 
--- 2, 3 and 4: the form of a line, which is skipped or has a letter and so many fields
+-- 2, 3 and 4: the form of a line, which is skipped or has a letter and so many fields, each a numeral
 abbrev pub formQuestions : ℕ → Line → List (Question TextAnswer)
 formQuestions last l =
     let section = recordIn (l .bytes) .section in
+    let fields = fieldsIn (columns (l .bytes)) in
     ask (l .ended && each isPlain (l .bytes)) BadLine
     ∷ ask (isSkipped (l .bytes) || follows last section) BadLetter
-    ∷ ask (isSkipped (l .bytes) || eqb (fieldsRead (fieldsIn (columns (l .bytes))) .count) (length (layoutOf section))) BadFields
+    ∷ ask (isSkipped (l .bytes) || (eqb (length fields) (length (layoutOf section)) && each isNumeral fields)) BadFields
     ∷ []
 
 -- 5 of all types together

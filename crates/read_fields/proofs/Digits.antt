@@ -10,9 +10,10 @@ use lib.ListN.{length, drop, getD, drop-of-length-le}
 use lib.Seq.{drop-cons}
 use Rattle.model.specs.Numbers.{each}
 use Rattle.model.proofs.Decide.{Decides, holding, failing}
-use Rattle.plan_text.specs.Records.{IsNumeral, isDigit, isNumeral, valueOn}
+use Rattle.plan_text.specs.Records.{IsNumeral, valueOn}
+use Rattle.plan_text.specs.RecordTests.{isDigit, isNumeral}
 use Rattle.plan_text.specs.ReaderInternals.{noValue, valueRead}
-use Rattle.plan_text.proofs.LineForm.{decides-number, number-below}
+use Rattle.plan_text.proofs.LineForm.{decides-numeral, number-below}
 
 -- the number of digits after those of x
 abbrev pub digitsOn : ℕ → List ℕ → ℕ
@@ -41,14 +42,14 @@ module _ (f : List ℕ) where
   small h = digits-small (0 + length f) (valueOn 0 f) (number-below f 0 0 (h .1) (omega arith)) (omega (arith, h .0))
 
   pub read-none : valueRead f ≡ noValue → isNumeral f ≡ false
-  read-none = step (decides-number f)
+  read-none = step (decides-numeral f)
     where
       step : {b : Bool} → Decides (IsNumeral f) b → cond b (valueOn 0 f) noValue ≡ noValue → b ≡ false
       step (holding h) e = absurd (omega (arith, small h))
       step (failing h) e = refl
 
   pub read-some : (¬ (valueRead f ≡ noValue)) → (isNumeral f ≡ true) × (valueRead f ≡ valueOn 0 f)
-  read-some = step (decides-number f)
+  read-some = step (decides-numeral f)
     where
       step : {b : Bool} → Decides (IsNumeral f) b → (¬ (cond b (valueOn 0 f) noValue ≡ noValue))
           → (b ≡ true) × (cond b (valueOn 0 f) noValue ≡ valueOn 0 f)

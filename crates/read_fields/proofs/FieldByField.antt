@@ -7,7 +7,7 @@ use lib.ListN.{length, take, drop, set}
 use borrow.Author.Tests.{lt-ltb}
 use Rattle.bytes.specs.Bytes.{slice, indexOf}
 use Rattle.plan_text.specs.Lines.{tab, columns, fieldsIn}
-use Rattle.plan_text.specs.Records.{isNumeral, fieldsOn}
+use Rattle.plan_text.specs.RecordTests.{isNumeral, fieldsOn}
 use Rattle.plan_text.specs.ReaderInternals.{noValue, valueRead}
 use Rattle.plan_text.specs.declared.Fields.{Fields}
 use Rattle.plan_text.proofs.Split.{partsAfter, after-separator, split-from}

@@ -1,7 +1,7 @@
 // A line of text: is it skipped, its letter, its fields and their numbers.
 ghost use mathlib.Core.Path.{_≡_};
 ghost use Rattle.plan_text.specs.Lines.{isSkipped, columns, letterIn, letterByte, fieldsIn};
-ghost use Rattle.plan_text.specs.Records.{fieldsRead};
+ghost use Rattle.plan_text.specs.RecordTests.{fieldsRead};
 ghost use Rattle.plan_text.specs.ReaderInternals.{valueRead};
 use bytes::scan::find;
 use plan_text::Fields;

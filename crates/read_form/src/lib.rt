@@ -4,7 +4,7 @@ ghost use mathlib.Core.Bool.{_&&_};
 ghost use lib.ListN.{length};
 ghost use Rattle.model.specs.Numbers.{each};
 ghost use Rattle.plan_text.specs.Lines.{isPlain, columns, letterIn, fieldsIn};
-ghost use Rattle.plan_text.specs.Records.{letters, position, sectionOf, layoutOf, fieldsRead, noRecord, recordWith};
+ghost use Rattle.plan_text.specs.Records.{letters, position, sectionOf, layoutOf, noRecord, recordWith};
 ghost use Rattle.plan_text.specs.Reading.{follows};
 ghost use Rattle.plan_text.specs.ReaderInternals.{formOf};
 use plan_text::Fields;

@@ -14,7 +14,8 @@ use Rattle.model.specs.Numbers.{at}
 use Rattle.model.specs.Plan.{emptyPlan}
 use Rattle.model.proofs.Lists.{replicated}
 use Rattle.plan_text.specs.Lines.{Line, lineEnd, linesOf}
-use Rattle.plan_text.specs.Records.{Known, knownOf, recordIn, inRanges}
+use Rattle.plan_text.specs.Records.{recordIn}
+use Rattle.plan_text.specs.RecordTests.{Known, knownOf, inRanges}
 use Rattle.plan_text.specs.Draft.{Draft, emptyDraft, draftAfter, heldIn}
 use Rattle.plan_text.specs.Reading.{refused, withinTotal, readFrom}
 use Rattle.plan_text.specs.TextQuestions.{isAccepted}

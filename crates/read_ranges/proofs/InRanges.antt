@@ -11,7 +11,8 @@ use lib.ListN.{length, drop, getD, drop-of-length-le}
 use lib.Seq.{drop-cons}
 use Rattle.model.specs.Numbers.{at}
 use Rattle.plan_entry.proofs.Outside.{Unmatched, unmatched}
-use Rattle.plan_text.specs.Records.{Field, between, resource, kind, row, stage, units, Known, lowestIn, highestIn, fitsFields}
+use Rattle.plan_text.specs.Records.{Field, between, resource, kind, row, stage, units}
+use Rattle.plan_text.specs.RecordTests.{Known, lowestIn, highestIn, fitsFields}
 use Rattle.read_ranges.specs.Table.{codeOf, fixedIn, fieldAt, numberIn, highestBy}
 
 -- the three numbers of a field

@@ -3,7 +3,8 @@ use Prim.Native.Nat.{ℕ}
 use mathlib.Core.List.{List, [], _∷_, _++_}
 use lib.ListN.{length, getD}
 use Rattle.model.specs.Numbers.{entry, at}
-use Rattle.plan_text.specs.Records.{Known, Field, between, resource, kind, row, stage, units, lowestIn}
+use Rattle.plan_text.specs.Records.{Field, between, resource, kind, row, stage, units}
+use Rattle.plan_text.specs.RecordTests.{Known, lowestIn}
 
 -- what a field is
 abbrev pub codeOf : Field → ℕ

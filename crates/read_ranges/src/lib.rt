@@ -1,7 +1,8 @@
 // The ranges of a record's numbers: one table of the seven sections, and the test that reads it.
 ghost use mathlib.Core.Path.{_≡_};
 ghost use lib.ListN.{length};
-ghost use Rattle.plan_text.specs.Records.{layoutOf, inRanges};
+ghost use Rattle.plan_text.specs.Records.{layoutOf};
+ghost use Rattle.plan_text.specs.RecordTests.{inRanges};
 ghost use Rattle.plan_text.specs.ReaderInternals.{knownWith};
 ghost use Rattle.read_ranges.specs.Table.{rowOf, highestBy};
 use plan_entry::entry_of;

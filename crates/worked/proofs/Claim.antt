@@ -9,7 +9,8 @@ use Rattle.events.specs.JobList.{listOf, agrees}
 use Rattle.events.specs.Events.{answer, listAfter}
 use Rattle.events.specs.Drain.{drainFrom, listDrain}
 use Rattle.emptying.specs.Ledger.{entered}
-use Rattle.plan_text.specs.Records.{recordIn, inRanges}
+use Rattle.plan_text.specs.Records.{recordIn}
+use Rattle.plan_text.specs.RecordTests.{inRanges}
 use Rattle.plan_text.specs.Draft.{emptyDraft, indexNamed, draftAfter, heldIn}
 use Rattle.plan_text.specs.Reading.{isComplete, reading}
 use Rattle.moves_text.specs.Decimals.{decimal}

@@ -5,7 +5,7 @@ use mathlib.Core.Path.{_≡_, sym, ap, _∙_}
 use mathlib.Core.List.{List, _∷_}
 use lib.ListN.{length, take, drop}
 use Rattle.plan_text.specs.Lines.{tab, columns, fieldsIn}
-use Rattle.plan_text.specs.Records.{fieldsOn, fieldsRead}
+use Rattle.plan_text.specs.RecordTests.{fieldsOn, fieldsRead}
 use Rattle.plan_text.proofs.Split.{after-end}
 use Rattle.read_fields.proofs.FieldByField.{fieldsAfter, first-tab, next-tab, field-bad, field-fifth, field-next}
 use borrow.Author.Needs.{needs}

@@ -6,7 +6,7 @@ use mathlib.Core.List.{List}
 use mathlib.Core.Path.{_≡_, refl, sym, _∙_}
 use lib.ListN.{length, drop, getD}
 use borrow.Author.Tests.{le-leb, lt-leb}
-use Rattle.plan_text.specs.Records.{isDigit}
+use Rattle.plan_text.specs.RecordTests.{isDigit}
 use Rattle.plan_text.specs.ReaderInternals.{noValue, valueRead}
 use Rattle.plan_text.proofs.LineForm.{digit-below}
 use Rattle.read_fields.proofs.Digits.{digitsOn, digit-next, digit-bad, digits-end, digits-small}

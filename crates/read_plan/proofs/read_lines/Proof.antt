@@ -13,7 +13,7 @@ use Rattle.plan_bytes.specs.Over.{stageIn, stagesSize, planOver}
 use Rattle.plan_bytes.specs.declared.Frame.{Frame}
 use Rattle.plan_bytes.proofs.Stored.{stored}
 use Rattle.plan_text.specs.Lines.{Line, lineEnd}
-use Rattle.plan_text.specs.Records.{Known, inRanges}
+use Rattle.plan_text.specs.RecordTests.{Known, inRanges}
 use Rattle.plan_text.specs.Draft.{Draft, entriesAfter, boundedAfter, heldBy, heldIn, indexNamed, draftAfter}
 use Rattle.plan_text.specs.Reading.{refused, isComplete, readFrom}
 use Rattle.plan_text.specs.TextQuestions.{isAccepted}

@@ -8,7 +8,8 @@ use lib.Dec.{leb}
 use lib.ListN.{length, drop, getD}
 use borrow.Author.Needs.{needs}
 use borrow.Author.Tests.{le-leb, lt-leb}
-use Rattle.plan_text.specs.Records.{Field, Known, layoutOf, lowestIn, highestIn, numbersOf, fitsFields, inRanges}
+use Rattle.plan_text.specs.Records.{Field, layoutOf, numbersOf}
+use Rattle.plan_text.specs.RecordTests.{Known, lowestIn, highestIn, fitsFields, inRanges}
 use Rattle.plan_text.specs.ReaderInternals.{knownWith}
 use Rattle.read_ranges.specs.Table.{fieldAt, numberIn, highestBy}
 use Rattle.plan_text.proofs.LineForm.{few-fields}
