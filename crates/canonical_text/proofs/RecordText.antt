@@ -140,7 +140,8 @@ module _ (r : Record) (s : CanonicalFits r) where
   pub record-back : recordIn (lineBytes r) ≡ r
   record-back =
       record-in (lineBytes r) is-record
-      ∙ rw (section-told, line-parts, numbers-back (take count (numbersOf r))) (numbers-enough count (r .section) (r .first) (r .second) (r .third) (r .fourth) (few-fields (r .section)) (s .blank))
+      ∙ rw (section-told, line-parts, numbers-back (take count (numbersOf r)))
+      (numbers-enough count (r .section) (r .first) (r .second) (r .third) (r .fourth) (few-fields (r .section)) (s .blank))
 
 -- the lines and the records of what was written
 pub lines-back : (rs : List Record) → Each CanonicalFits rs → linesOf (textOf rs) ≡ map recordLine rs

@@ -19,7 +19,7 @@ use Rattle.plan_text.proofs.LineByLine.{end-within, line-here, no-line}
 use Rattle.moves_text.specs.EventLines.{eventIn, counted, countedIn}
 use Rattle.moves_text.specs.OutputLines.{eventLine, listAfterLine}
 use Rattle.moves_text.specs.Output.{replyTo, repliesTo, printedFrom, toPrint}
-use Rattle.moves_text.specs.Buffer.{overlaid, overlaidAt}
+use Rattle.moves_text.specs.Buffer.{overlaidAt}
 use Rattle.moves_text.specs.declared.EventLine.{EventLine}
 use Rattle.moves_text.specs.declared.EventLine.the-variants.{Skipped}
 use Rattle.moves_text.proofs.Enough.{active-after, answered-small, event-line-short}

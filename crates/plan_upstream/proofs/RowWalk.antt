@@ -7,7 +7,7 @@ use mathlib.Core.Bool.{Bool, true, false, cond, _&&_, _||_, and-false, or-false}
 use mathlib.Core.Logic.{_⊎_, inl, inr, ⊎-elim}
 use mathlib.Core.Path.{_≡_, refl, sym, subst}
 use borrow.Author.Tests.{lt-leb, eq-eqb, ne-eqb}
-use Rattle.model.specs.Numbers.{InRange, at, sumTo}
+use Rattle.model.specs.Numbers.{InRange, sumTo}
 use Rattle.model.specs.Plan.{rankOf, lengthOf, IsStage, allStages, stageOf, demandOf, weightOf, Demands}
 use Rattle.model.specs.Upstream.{RankedUpTo, UpstreamOf, demands, rankedUpTo, upstreamOf, upstreamRow}
 use Rattle.model.specs.declared.Plan.{Plan}

@@ -1,5 +1,4 @@
 // Where an entry of the array of stages belongs.
-ghost use mathlib.Core.Path.{_≡_};
 ghost use Prim.Native.Nat.{_≤_};
 ghost use Rattle.plan_upstream.specs.CheckInternals.{Stands};
 use widen::u8_to_usize;

@@ -1,7 +1,7 @@
 // What the upstream check asks of one stage: does it demand one unit, what is the lowest rank that it demands, and what weight
 // is due to it in a row? Its demands are lent, by any count of them: nothing is demanded beyond.
 ghost use mathlib.Core.Path.{_≡_};
-ghost use Prim.Native.Nat.{_≤_, min};
+ghost use Prim.Native.Nat.{min};
 ghost use lib.Dec.{eqb};
 ghost use Rattle.model.specs.Numbers.{at, sumTo};
 ghost use Rattle.plan_upstream_stage.specs.Due.{rankIf, lowestRank, dueBy};

@@ -1,13 +1,11 @@
 // The form of a line of the plan text: its bytes, its letter and the count of its fields; questions 2 to 4.
 ghost use mathlib.Core.Path.{_≡_};
 ghost use mathlib.Core.Bool.{_&&_};
-ghost use lib.ListN.{length};
 ghost use Rattle.model.specs.Numbers.{each};
-ghost use Rattle.plan_text.specs.Lines.{isPlain, columns, letterIn, fieldsIn};
-ghost use Rattle.plan_text.specs.Records.{letters, position, sectionOf, layoutOf, noRecord, recordWith};
+ghost use Rattle.plan_text.specs.Lines.{isPlain, columns, letterIn};
+ghost use Rattle.plan_text.specs.Records.{letters, position, sectionOf, noRecord, recordWith};
 ghost use Rattle.plan_text.specs.Reading.{follows};
 ghost use Rattle.plan_text.specs.ReaderInternals.{formOf};
-use plan_text::Fields;
 use plan_text::Form;
 use plan_text::Record;
 use plan_text::TextAnswer;

@@ -1,7 +1,7 @@
 // What the jobs hold: the units of each resource and the sum of each row; and the two tests of them, 18 and 19, once one
 // stage is exchanged for another in one act. All 32 entries are summed and tested: beyond a sound plan's counts they are 0.
 ghost use mathlib.Core.Path.{_≡_};
-ghost use Prim.Native.Nat.{_+_, _-_, _≤_, min};
+ghost use Prim.Native.Nat.{_+_, _-_, min};
 ghost use Rattle.model.specs.Limits.{maxJobs};
 ghost use Rattle.events.specs.JobList.{jobsOf};
 ghost use Rattle.plan_bytes.specs.Over.{planOver, stageAt};

@@ -1,5 +1,4 @@
 -- The fewest digits are those without leading zeros.
-use mathlib.Core.List.{List}
 use mathlib.Core.Path.{_≡_, _∙_}
 use lib.ListN.{take}
 use borrow.Author.Needs.{needs}
