@@ -1,4 +1,4 @@
-/* The bytes that one call of each kind copies and sets. The linker hands memcpy, memmove and memset to the functions below (--wrap); what the
+/* The bytes that a call copies and sets, one line for each. The linker hands memcpy, memmove and memset to the functions below (--wrap); what the
  * library copies by instructions of its own is not seen. Standard input: the crossing plan. */
 #include "rilthoss.h"
 
@@ -11,7 +11,7 @@ static struct counts {
 
 static uint8_t cell[RILTHOSS_CELL_SIZE];
 static uint8_t text[RILTHOSS_MAX_TEXT];
-static uint8_t space[RILTHOSS_MAX_OUTPUT];
+static uint8_t buffer[RILTHOSS_MAX_OUTPUT];
 
 void *__real_memcpy(void *to, const void *from, size_t length);
 void *__real_memmove(void *to, const void *from, size_t length);
@@ -64,9 +64,9 @@ static void step(const char *what, struct counts without)
 static void drain(void)
 {
     rilthoss_load(cell, sizeof cell, 7, 1);
-    memcpy(space, cell, sizeof cell);
+    memcpy(buffer, cell, sizeof cell);
     counted();
-    rilthoss_drain(space, sizeof cell, 1);
+    rilthoss_drain(buffer, sizeof cell, 1);
     struct counts without = counted();
     rilthoss_drain(cell, sizeof cell, 2);
     step("a move of a drain", without);
@@ -78,9 +78,9 @@ static void run(size_t length)
     static const uint8_t events[] = {'E', '\n', 'L', '\t', '7', '\t', '1', '\n', 'A', '\t', '7', '\n'};
     memcpy(text + length, events, sizeof events);
     counted();
-    rilthoss_run(text, length + sizeof events - 4, space, sizeof space);
+    rilthoss_run(text, length + sizeof events - 4, buffer, sizeof buffer);
     struct counts without = counted();
-    rilthoss_run(text, length + sizeof events, space, sizeof space);
+    rilthoss_run(text, length + sizeof events, buffer, sizeof buffer);
     step("an event line of a run", without);
 }
 
@@ -90,7 +90,7 @@ int main(void)
     printf("| what | bytes copied | bytes set |\n|---|---:|---:|\n");
     counted();
     call("read the plan", rilthoss_read_plan(cell, sizeof cell, text, length));
-    call("write the plan", rilthoss_write_plan(cell, sizeof cell, space, sizeof space));
+    call("write the plan", rilthoss_write_plan(cell, sizeof cell, buffer, sizeof buffer));
     call("check", rilthoss_check(cell, sizeof cell));
     call("load", rilthoss_load(cell, sizeof cell, 7, 1));
     call("load", rilthoss_load(cell, sizeof cell, 8, 2));

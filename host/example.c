@@ -5,7 +5,7 @@
 #include <stdio.h>
 #include <string.h>
 
-/* A cell that was stored before is read as it was written: no place has moved, and no part is left out. */
+/* A cell that was stored before is read as it was written: no offset has moved, and no part is left out. */
 _Static_assert(RILTHOSS_OFFSET_RESOURCES == 0 && RILTHOSS_OFFSET_TYPES == 1 && RILTHOSS_OFFSET_ROWS == 2, "counts");
 _Static_assert(RILTHOSS_OFFSET_CAPACITIES == 3 && RILTHOSS_OFFSET_RANKS == 35 && RILTHOSS_MAX_RESOURCES == 32, "resources");
 _Static_assert(RILTHOSS_OFFSET_BOUNDS == 67 && RILTHOSS_MAX_ROWS == 32, "rows");

@@ -73,7 +73,7 @@ enum rilthoss_answer_number {
     RILTHOSS_REPEATED = 6,     /* a record with this key was there before */
     RILTHOSS_INCOMPLETE = 7,   /* a C, R, T, S or B is missing, or K is given for some resources only */
 
-    /* of bytes: a written plan has no room in the space; and, beyond the papers' list and for a host alone, fewer bytes than a cell has */
+    /* of bytes: a written plan has no room in the buffer; and, beyond the papers' list and for a host alone, fewer bytes than a cell has */
     RILTHOSS_NO_ROOM = 9,
 
     /* of an event; the first also of a check and of a written plan, the first two also of a drain */
@@ -123,20 +123,20 @@ uint64_t rilthoss_shown(const uint8_t *text, size_t text_length);
 static inline uint32_t rilthoss_begin(uint64_t shown) { return (uint32_t)(shown & 0xffffffff); }
 static inline uint32_t rilthoss_end(uint64_t shown) { return (uint32_t)(shown >> 32); }
 
-/* Writes the cell's plan as text, in its one spelling: the records in order of their sections and keys, no leading zeros, no comments, no empty
- * lines. Number: 0 written, 11, or 9 if the text is longer than the space or than RILTHOSS_MAX_TEXT bytes; length: that of the text. A refusal
- * changes no byte; otherwise the space begins with the text and is unchanged after it. The spelling of a text that was accepted is never longer
- * than that text. In a space of RILTHOSS_MAX_TEXT bytes, 9 of a whole cell says that the plan's text is too long for any. */
-uint64_t rilthoss_write_plan(const uint8_t *cell, size_t cell_length, uint8_t *space, size_t space_length);
+/* Writes the cell's plan as text, in its canonical form: the records in order of their sections and keys, no leading zeros, no comments, no empty
+ * lines. Number: 0 written, 11, or 9 if the text is longer than the buffer or than RILTHOSS_MAX_TEXT bytes; length: that of the text. A refusal
+ * changes no byte; otherwise the buffer begins with the text and is unchanged after it. The canonical form of an accepted text is never longer
+ * than that text. In a buffer of RILTHOSS_MAX_TEXT bytes, 9 of a whole cell says that the plan's text is too long for any. */
+uint64_t rilthoss_write_plan(const uint8_t *cell, size_t cell_length, uint8_t *buffer, size_t buffer_length);
 
 /* The upstream check of the cell's plan. Number: 0 the plan meets the upstream rule, or 11, 21 to 25; place: for 22 the type, and the second
  * place its stage; for 24 and 25 the row. */
 uint64_t rilthoss_check(const uint8_t *cell, size_t cell_length);
 
 /* The events. Number: 0 admitted, or 11 to 19; place: for 18 the lowest resource exceeded, for 19 the row exceeded by the most and of
- * equals the lowest. An admitted event changes the jobs, a refused one no byte. A pull takes out a job that is scrapped, at whichever stage
- * it is: 0, or 11 to 14. */
-uint64_t rilthoss_load(uint8_t *cell, size_t cell_length, uint32_t job, uint32_t type);
+ * equals the lowest. An admitted event changes the jobs, a refused one no byte. `kind` is the type of the job that is loaded. A pull takes out a
+ * job that is scrapped, at whichever stage it is: 0, or 11 to 14. */
+uint64_t rilthoss_load(uint8_t *cell, size_t cell_length, uint32_t job, uint32_t kind);
 uint64_t rilthoss_advance(uint8_t *cell, size_t cell_length, uint32_t job);
 uint64_t rilthoss_unload(uint8_t *cell, size_t cell_length, uint32_t job);
 uint64_t rilthoss_pull(uint8_t *cell, size_t cell_length, uint32_t job);
@@ -145,9 +145,9 @@ uint64_t rilthoss_pull(uint8_t *cell, size_t cell_length, uint32_t job);
  * budget is spent, 32 no move is admitted, or 11, 12; moves: those made, which stay made under 31 and 32. */
 uint64_t rilthoss_drain(uint8_t *cell, size_t cell_length, uint32_t budget);
 
-/* The whole run of `cellmoves`: from its input to what it prints. The space then begins with the output, and the answer is its length. If it
- * does not fit, the answer is 0 and the space is unchanged. */
-size_t rilthoss_run(const uint8_t *input, size_t input_length, uint8_t *space, size_t space_length);
+/* The whole run of `cellmoves`: from its input to what it prints. The buffer then begins with the output, and the answer is its length. If it
+ * does not fit, the answer is 0 and the buffer is unchanged. */
+size_t rilthoss_run(const uint8_t *input, size_t input_length, uint8_t *buffer, size_t buffer_length);
 
 #ifdef __cplusplus
 }

@@ -7,10 +7,10 @@ use crate::plans::{
 use differential::cells::{self, TABLE};
 use differential::compare::answer;
 use differential::inputs::CROSSING;
+use reference::canonical::write_plan;
 use reference::drain::drain;
 use reference::event;
 use reference::run::run;
-use reference::spelling::write_plan;
 use reference::text::read_plan;
 use reference::upstream::check;
 use reference::{Plan, Table};
@@ -76,13 +76,13 @@ fn write_lines(measure: Measure) {
 /// Both sides ask whether the plan is sound and measure its text before they write it.
 fn write_line(measure: Measure, what: &str, plan: &Plan) {
     let bytes = cells::encode(plan, &Table::EMPTY);
-    let mut space = vec![0; MAX_TEXT];
-    let mut found = space.clone();
-    let writing = write_plan(plan, &mut space);
+    let mut buffer = vec![0; MAX_TEXT];
+    let mut found = buffer.clone();
+    let writing = write_plan(plan, &mut buffer);
     assert_eq!(writing.number, 0);
     let answered = rilthoss::write_plan(&bytes, &mut found);
     assert_eq!(answered, answer(0, writing.length, 0));
-    assert_eq!(found, space);
+    assert_eq!(found, buffer);
     measure.line(
         &format!("write {what}"),
         || {
@@ -92,7 +92,7 @@ fn write_line(measure: Measure, what: &str, plan: &Plan) {
             ));
         },
         || {
-            black_box(write_plan(black_box(plan), black_box(&mut space)));
+            black_box(write_plan(black_box(plan), black_box(&mut buffer)));
         },
     );
 }

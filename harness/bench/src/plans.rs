@@ -1,7 +1,7 @@
 //! The plans, tables and texts that are measured.
 
 use differential::plans::weigh_upstream;
-use reference::spelling::text_length;
+use reference::canonical::text_length;
 use reference::text::{read_plan, MAX_TEXT};
 use reference::{Job, Plan, Table};
 use std::fmt;
@@ -69,7 +69,7 @@ pub fn event_table(size: Size, jobs: usize) -> Table {
     for place in 0..jobs as u32 {
         table.push(Job {
             number: place + 1,
-            job_type: place % u32::from(plan.types) + 1,
+            kind: place % u32::from(plan.types) + 1,
             stage: place % (u32::from(plan.lengths[0]) - 1) + 1,
         });
     }
@@ -97,7 +97,7 @@ pub fn first_stages(plan: &Plan, jobs: u32) -> Table {
     for place in 0..jobs {
         table.push(Job {
             number: place + 1,
-            job_type: place % u32::from(plan.types) + 1,
+            kind: place % u32::from(plan.types) + 1,
             stage: 1,
         });
     }
@@ -120,9 +120,9 @@ pub fn full_text(length: usize) -> Vec<u8> {
     let mut weights = String::new();
     let fixed = counts.len() + bounds.len() + ranks.len();
     for other in 1..=32 {
-        for (job_type, stage) in stages() {
-            let demand = format!("S\t{job_type}\t{stage}\t{other}\t1\n");
-            let weight = format!("A\t{other}\t{job_type}\t{stage}\t1\n");
+        for (kind, stage) in stages() {
+            let demand = format!("S\t{kind}\t{stage}\t{other}\t1\n");
+            let weight = format!("A\t{other}\t{kind}\t{stage}\t1\n");
             let more = demand.len() + weight.len();
             if fixed + demands.len() + weights.len() + more + 2 <= length {
                 demands.push_str(&demand);
@@ -135,8 +135,8 @@ pub fn full_text(length: usize) -> Vec<u8> {
     (text + &comment + "\n").into_bytes()
 }
 
-/// A plan whose spelling has 65,536 bytes: that of a full text, where weights of two digits make up
-/// for the comment.
+/// A plan whose canonical form has 65,536 bytes: that of a full text, where weights of two digits
+/// make up for the comment.
 pub fn longest_plan() -> Plan {
     let mut plan = read_plan(&full_text(MAX_TEXT)).plan;
     let left = MAX_TEXT - text_length(&plan);

@@ -1,7 +1,7 @@
-//! The kinds of cases, and the runs of many of them.
+//! The families of cases, and the runs of many of them.
 
 use crate::cells;
-use crate::compare::{compare_run, compare_shown, Call, Sides, Space};
+use crate::compare::{compare_run, compare_shown, Buffer, Call, Sides};
 use crate::counts::{Counts, Group};
 use crate::events;
 use crate::inputs;
@@ -18,7 +18,7 @@ use std::thread;
 const MOST_FAILURES: usize = 5;
 
 #[derive(Clone, Copy, Debug, PartialEq, Eq)]
-enum Kind {
+enum Family {
     Text,
     Events,
     Pattern,
@@ -44,7 +44,7 @@ pub fn run_cases(cases: u64, seed: u64, threads: u64) -> Outcome {
 /// Runs as many cases of shuffled texts and no others.
 pub fn run_shuffled(cases: u64, seed: u64, threads: u64) -> Outcome {
     run_all(cases, threads, move |index, counts| {
-        run_kind(Kind::Shuffled, Random::of_case(seed, index), counts)
+        run_family(Family::Shuffled, Random::of_case(seed, index), counts)
             .map_err(|difference| format!("shuffled text {index} of seed {seed}: {difference}"))
     })
 }
@@ -82,33 +82,33 @@ fn run_all(
     outcome
 }
 
-/// Runs one case; a failure names its kind, seed and index and what differed.
+/// Runs one case; a failure names its family, seed and index and what differed.
 pub fn run_case(seed: u64, index: u64, counts: &mut Counts) -> Result<(), String> {
     let mut random = Random::of_case(seed, index);
-    let kind = match random.below(100) {
-        0..=29 => Kind::Text,
-        30..=50 => Kind::Events,
-        51..=70 => Kind::Pattern,
-        71..=78 => Kind::Check,
-        79..=90 => Kind::Run,
-        91..=94 => Kind::Emptying,
-        95..=97 => Kind::Writing,
-        _ => Kind::Shuffled,
+    let family = match random.below(100) {
+        0..=29 => Family::Text,
+        30..=50 => Family::Events,
+        51..=70 => Family::Pattern,
+        71..=78 => Family::Check,
+        79..=90 => Family::Run,
+        91..=94 => Family::Emptying,
+        95..=97 => Family::Writing,
+        _ => Family::Shuffled,
     };
-    run_kind(kind, random, counts)
-        .map_err(|difference| format!("{kind:?} case, seed {seed}, index {index}: {difference}"))
+    run_family(family, random, counts)
+        .map_err(|difference| format!("{family:?} case, seed {seed}, index {index}: {difference}"))
 }
 
-fn run_kind(kind: Kind, mut random: Random, counts: &mut Counts) -> Result<(), String> {
-    let case = || match kind {
-        Kind::Text => text_case(&mut random, counts),
-        Kind::Events => events_case(&mut random, counts),
-        Kind::Pattern => pattern_case(&mut random, counts),
-        Kind::Check => check_case(&mut random, counts),
-        Kind::Run => run_input_case(&mut random, counts),
-        Kind::Emptying => emptying_case(&mut random, counts),
-        Kind::Writing => writing_case(&mut random, counts),
-        Kind::Shuffled => shuffled_case(&mut random, counts),
+fn run_family(family: Family, mut random: Random, counts: &mut Counts) -> Result<(), String> {
+    let case = || match family {
+        Family::Text => text_case(&mut random, counts),
+        Family::Events => events_case(&mut random, counts),
+        Family::Pattern => pattern_case(&mut random, counts),
+        Family::Check => check_case(&mut random, counts),
+        Family::Run => run_input_case(&mut random, counts),
+        Family::Emptying => emptying_case(&mut random, counts),
+        Family::Writing => writing_case(&mut random, counts),
+        Family::Shuffled => shuffled_case(&mut random, counts),
     };
     catch_unwind(AssertUnwindSafe(case)).unwrap_or_else(|_| Err("panic".to_string()))
 }
@@ -135,27 +135,27 @@ fn set_length(random: &mut Random, bytes: &mut Vec<u8>) {
     }
 }
 
-/// Output space for a run: mostly as much as is printed or a little more or less.
-fn space(random: &mut Random) -> Space {
+/// A buffer for the output of a run: mostly as long as what is printed or a little more or less.
+fn buffer(random: &mut Random) -> Buffer {
     match random.below(100) {
-        0..=19 => Space::OneLess,
-        20..=24 => Space::None,
-        25..=54 => Space::More(0),
-        55..=98 => Space::More(random.between(1, 100)),
-        _ => Space::Of(MAX_OUTPUT),
+        0..=19 => Buffer::OneLess,
+        20..=24 => Buffer::None,
+        25..=54 => Buffer::More(0),
+        55..=98 => Buffer::More(random.between(1, 100)),
+        _ => Buffer::Of(MAX_OUTPUT),
     }
 }
 
-/// Space for a plan's text: mostly just enough or a byte more or less, or near 65,536 bytes.
-fn text_space(random: &mut Random) -> Space {
+/// A buffer for a plan's text: mostly just enough or a byte more or less, or near 65,536 bytes.
+fn text_buffer(random: &mut Random) -> Buffer {
     match random.below(100) {
-        0..=17 => Space::OneLess,
-        18..=25 => Space::None,
-        26..=47 => Space::More(0),
-        48..=65 => Space::More(1),
-        66..=81 => Space::More(random.between(2, 100)),
-        82..=89 => Space::Of(random.below(300)),
-        _ => Space::Of(random.pick(&[65_535, 65_536, 65_537, 120_000])),
+        0..=17 => Buffer::OneLess,
+        18..=25 => Buffer::None,
+        26..=47 => Buffer::More(0),
+        48..=65 => Buffer::More(1),
+        66..=81 => Buffer::More(random.between(2, 100)),
+        82..=89 => Buffer::Of(random.below(300)),
+        _ => Buffer::Of(random.pick(&[65_535, 65_536, 65_537, 120_000])),
     }
 }
 
@@ -172,11 +172,11 @@ fn text_case(random: &mut Random, counts: &mut Counts) -> Result<(), String> {
         demand(sides.plan == *plan, "the plan is not the one written")?;
     }
     if answer.number() == 0 && random.chance(20) {
-        respell(random, &mut sides, &text.bytes)?;
+        rewrite(random, &mut sides, &text.bytes)?;
     }
     compare_shown(&text.bytes, counts)?;
-    let space = space(random);
-    compare_run(&text.bytes, space, random, counts)
+    let buffer = buffer(random);
+    compare_run(&text.bytes, buffer, random, counts)
 }
 
 /// A cell with a plan and a table, the plan sometimes read from its text.
@@ -225,7 +225,7 @@ fn pattern_case(random: &mut Random, counts: &mut Counts) -> Result<(), String> 
     let mut bytes = patterns::bytes(random);
     set_length(random, &mut bytes);
     let mut sides = Sides::new(bytes, counts);
-    sides.write_plan(text_space(random), random)?;
+    sides.write_plan(text_buffer(random), random)?;
     for _ in 0..2 {
         let (plan, table) = (&sides.plan, &sides.table);
         let mut calls = [
@@ -263,13 +263,13 @@ fn check_case(random: &mut Random, counts: &mut Counts) -> Result<(), String> {
     Ok(())
 }
 
-/// A whole input, in output space of every kind.
+/// A whole input, with output buffers of every length.
 fn run_input_case(random: &mut Random, counts: &mut Counts) -> Result<(), String> {
     let input = inputs::input(random);
-    let first = space(random);
+    let first = buffer(random);
     compare_run(&input, first, random, counts)?;
-    if first == Space::OneLess {
-        compare_run(&input, Space::More(0), random, counts)?;
+    if first == Buffer::OneLess {
+        compare_run(&input, Buffer::More(0), random, counts)?;
     }
     Ok(())
 }
@@ -298,7 +298,7 @@ fn emptying_case(random: &mut Random, counts: &mut Counts) -> Result<(), String>
     demand(sides.table == Table::EMPTY, "a drained table is not empty")
 }
 
-/// A plan written into several spaces. What was written is read as the same plan, so no two plans
+/// A plan written into several buffers. What was written is read as the same plan, so no two plans
 /// share a text, and is written again by the same bytes.
 fn writing_case(random: &mut Random, counts: &mut Counts) -> Result<(), String> {
     let mut bytes = written_cell(random);
@@ -306,8 +306,8 @@ fn writing_case(random: &mut Random, counts: &mut Counts) -> Result<(), String> 
     let mut sides = Sides::new(bytes, counts);
     let mut text = Vec::new();
     for _ in 0..3 {
-        let space = text_space(random);
-        let written = sides.write_plan(space, random)?;
+        let buffer = text_buffer(random);
+        let written = sides.write_plan(buffer, random)?;
         if !written.is_empty() {
             text = written;
         }
@@ -320,7 +320,7 @@ fn writing_case(random: &mut Random, counts: &mut Counts) -> Result<(), String> 
     let answer = sides.read_plan(&text)?;
     demand(answer.number() == 0, "a written text was refused")?;
     demand(sides.plan == plan, "a written text gives another plan")?;
-    let again = sides.write_plan(Space::More(0), random)?;
+    let again = sides.write_plan(Buffer::More(0), random)?;
     demand(again == text, "a written text is written otherwise")
 }
 
@@ -329,7 +329,7 @@ fn writing_case(random: &mut Random, counts: &mut Counts) -> Result<(), String> 
 /// bytes stand there.
 fn written_cell(random: &mut Random) -> Vec<u8> {
     let mut plan = match random.below(100) {
-        0..=49 => spelled_plan(random),
+        0..=49 => sound_plan(random),
         50..=55 => plans::dense(random),
         56..=74 => {
             let length = random.between(65_534, 65_538);
@@ -345,8 +345,8 @@ fn written_cell(random: &mut Random) -> Vec<u8> {
     bytes
 }
 
-/// A sound plan of any kind, often with numbers of every count of digits.
-fn spelled_plan(random: &mut Random) -> Plan {
+/// Any sound plan, often with numbers of every count of digits.
+fn sound_plan(random: &mut Random) -> Plan {
     let mut plan = plans::plan(random);
     if random.chance(40) {
         plans::set_edges(random, &mut plan);
@@ -359,7 +359,7 @@ fn shuffled_case(random: &mut Random, counts: &mut Counts) -> Result<(), String>
     let (plan, text) = loop {
         let plan = match random.chance(1) {
             true => plans::with_text_length(random, 65_536),
-            false => spelled_plan(random),
+            false => sound_plan(random),
         };
         if let Some(text) = texts::shuffled(random, &plan) {
             break (plan, text);
@@ -369,26 +369,26 @@ fn shuffled_case(random: &mut Random, counts: &mut Counts) -> Result<(), String>
     let answer = sides.read_plan(&text)?;
     demand(answer.number() == 0, "a shuffled text was refused")?;
     demand(sides.plan == plan, "a shuffled text gives another plan")?;
-    respell(random, &mut sides, &text)?;
+    rewrite(random, &mut sides, &text)?;
     counts.add(Group::Shuffled, answer.number());
     Ok(())
 }
 
 /// The plan of an accepted text is written as that text's records in order, never longer than the
 /// text; reading and writing it once more changes no byte.
-fn respell(random: &mut Random, sides: &mut Sides<'_>, text: &[u8]) -> Result<(), String> {
+fn rewrite(random: &mut Random, sides: &mut Sides<'_>, text: &[u8]) -> Result<(), String> {
     let plan = sides.plan.clone();
     let more = random.pick(&[0, 1, 50]);
-    let spelling = sides.write_plan(Space::More(more), random)?;
+    let canonical = sides.write_plan(Buffer::More(more), random)?;
     let expected = texts::sorted(text);
     demand(
-        spelling == expected,
-        "a spelling is not the records in order",
+        canonical == expected,
+        "a canonical form is not the records in order",
     )?;
-    demand(spelling.len() <= text.len(), "a spelling is longer")?;
-    let answer = sides.read_plan(&spelling)?;
-    demand(answer.number() == 0, "a spelling was refused")?;
-    demand(sides.plan == plan, "a spelling gives another plan")?;
-    let again = sides.write_plan(Space::More(more), random)?;
-    demand(again == spelling, "a spelling is written otherwise")
+    demand(canonical.len() <= text.len(), "a canonical form is longer")?;
+    let answer = sides.read_plan(&canonical)?;
+    demand(answer.number() == 0, "a canonical form was refused")?;
+    demand(sides.plan == plan, "a canonical form gives another plan")?;
+    let again = sides.write_plan(Buffer::More(more), random)?;
+    demand(again == canonical, "a canonical form is written otherwise")
 }

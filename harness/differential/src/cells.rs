@@ -63,7 +63,7 @@ pub fn decode_table(cell: &[u8]) -> Table {
         };
         *job = Job {
             number: field(0),
-            job_type: field(4),
+            kind: field(4),
             stage: field(8),
         };
     }
@@ -75,7 +75,7 @@ pub fn encode_table(table: &Table, cell: &mut [u8]) {
     let jobs = cell[offset::JOBS..].chunks_exact_mut(JOB_SIZE);
     for (job, bytes) in table.jobs.iter().zip(jobs) {
         bytes[..4].copy_from_slice(&job.number.to_le_bytes());
-        bytes[4..8].copy_from_slice(&job.job_type.to_le_bytes());
+        bytes[4..8].copy_from_slice(&job.kind.to_le_bytes());
         bytes[8..].copy_from_slice(&job.stage.to_le_bytes());
     }
 }
@@ -120,7 +120,7 @@ mod tests {
         assert_eq!(plan.bound[1], 513);
         assert_eq!(plan.stages[127].demand[31], 3);
         assert_eq!(plan.stages[127].weight[0], 4);
-        assert_eq!(table.jobs[63].job_type, 5);
+        assert_eq!(table.jobs[63].kind, 5);
         assert_eq!(table.jobs[63].stage, 1536);
     }
 }

@@ -6,9 +6,9 @@ use crate::counts::{Counts, Group};
 use crate::guarded::Guarded;
 use crate::random::Random;
 use crate::rows::broken;
+use reference::canonical::{text_length, write_plan};
 use reference::drain::drain;
 use reference::event::{advance, load, pull, unload};
-use reference::spelling::{text_length, write_plan};
 use reference::text::read_plan;
 use reference::upstream::check;
 use reference::{Plan, Table};
@@ -19,7 +19,7 @@ use std::ops::Range;
 #[derive(Clone, Copy, Debug, PartialEq, Eq)]
 pub enum Call {
     Check,
-    Load { job: u32, job_type: u32 },
+    Load { job: u32, kind: u32 },
     Advance { job: u32 },
     Unload { job: u32 },
     Pull { job: u32 },
@@ -29,9 +29,9 @@ pub enum Call {
 /// Stands for the length of a text where a plan is not sound and has none.
 const WITHOUT_TEXT: usize = 200;
 
-/// A lent space, by the length of what is to be written into it.
+/// A buffer, by the length of what is to be written into it.
 #[derive(Clone, Copy, Debug, PartialEq, Eq)]
-pub enum Space {
+pub enum Buffer {
     None,
     OneLess,
     More(usize),
@@ -39,13 +39,13 @@ pub enum Space {
     Of(usize),
 }
 
-impl Space {
+impl Buffer {
     fn length(self, written: usize) -> usize {
         match self {
-            Space::None => 0,
-            Space::OneLess => written.saturating_sub(1),
-            Space::More(more) => written + more,
-            Space::Of(length) => length,
+            Buffer::None => 0,
+            Buffer::OneLess => written.saturating_sub(1),
+            Buffer::More(more) => written + more,
+            Buffer::Of(length) => length,
         }
     }
 }
@@ -95,12 +95,12 @@ impl Sides<'_> {
         Ok(expected)
     }
 
-    /// Writes the plan's text into a space. The space is filled before with bytes that no text
+    /// Writes the plan's text into a buffer. The buffer is filled before with bytes that no text
     /// has; neither the cell nor what lies beyond the text may change. What the library wrote is
     /// returned, nothing if that was refused.
-    pub fn write_plan(&mut self, space: Space, random: &mut Random) -> Result<Vec<u8>, String> {
+    pub fn write_plan(&mut self, buffer: Buffer, random: &mut Random) -> Result<Vec<u8>, String> {
         let length = self.plan.is_sound().then(|| text_length(&self.plan));
-        let mut expected = random.bytes(space.length(length.unwrap_or(WITHOUT_TEXT)));
+        let mut expected = random.bytes(buffer.length(length.unwrap_or(WITHOUT_TEXT)));
         expected.iter_mut().for_each(|byte| *byte |= 0x80);
         let mut found = Guarded::new(&expected);
         let (due, asked) = if self.is_short() {
@@ -154,7 +154,7 @@ impl Sides<'_> {
                 let checked = check(plan);
                 answer(checked.number, checked.first, checked.second)
             }
-            Call::Load { job, job_type } => event(load(plan, table, job, job_type)),
+            Call::Load { job, kind } => event(load(plan, table, job, kind)),
             Call::Advance { job } => event(advance(plan, table, job)),
             Call::Unload { job } => event(unload(plan, table, job)),
             Call::Pull { job } => event(pull(plan, table, job)),
@@ -171,7 +171,7 @@ impl Sides<'_> {
         let bytes = self.found.inner_mut();
         match call {
             Call::Check => rilthoss::check(bytes),
-            Call::Load { job, job_type } => rilthoss::load(bytes, job, job_type),
+            Call::Load { job, kind } => rilthoss::load(bytes, job, kind),
             Call::Advance { job } => rilthoss::advance(bytes, job),
             Call::Unload { job } => rilthoss::unload(bytes, job),
             Call::Pull { job } => rilthoss::pull(bytes, job),
@@ -187,16 +187,16 @@ impl Sides<'_> {
     }
 }
 
-/// The whole run of `cellmoves` on both sides in some output space. The space is filled before,
+/// The whole run of `cellmoves` on both sides into a buffer. The buffer is filled before,
 /// and what lies beyond the output must stay.
 pub fn compare_run(
     input: &[u8],
-    space: Space,
+    buffer: Buffer,
     random: &mut Random,
     counts: &mut Counts,
 ) -> Result<(), String> {
     let printed = reference::run::run(input);
-    let length = space.length(printed.len());
+    let length = buffer.length(printed.len());
     let mut expected = random.bytes(length);
     let mut found = Guarded::new(&expected);
     let fits = printed.len() <= length;
@@ -344,15 +344,15 @@ mod tests {
         let bytes = cells::encode(&plan, &Table::EMPTY);
         let mut counts = Counts::default();
         let mut sides = Sides::new(bytes.clone(), &mut counts);
-        for space in [Space::More(9), Space::OneLess] {
-            assert!(sides.write_plan(space, &mut random).is_ok());
+        for buffer in [Buffer::More(9), Buffer::OneLess] {
+            assert!(sides.write_plan(buffer, &mut random).is_ok());
         }
         sides.plan.bound[0] ^= 1;
-        assert!(sides.write_plan(Space::More(9), &mut random).is_err());
+        assert!(sides.write_plan(Buffer::More(9), &mut random).is_err());
         sides.plan.types = 0;
-        assert!(sides.write_plan(Space::None, &mut random).is_err());
+        assert!(sides.write_plan(Buffer::None, &mut random).is_err());
         let mut sides = Sides::new(bytes, &mut counts);
         sides.expected[9107] ^= 1;
-        assert!(sides.write_plan(Space::More(9), &mut random).is_err());
+        assert!(sides.write_plan(Buffer::More(9), &mut random).is_err());
     }
 }

@@ -1,5 +1,5 @@
 //! How often each published number occurred, how the rows were broken where it was 19, how the
-//! space stood to the text where a plan was written, and what never occurred.
+//! buffer stood to the text where a plan was written, and what never occurred.
 
 use crate::compare::Call;
 use crate::rows::Broken;
@@ -32,19 +32,19 @@ pub enum Group {
     WorstFirst,
     WorstLater,
     Write,
-    /// What a 9 of the writer was for; both are the space and the longest text.
+    /// What a 9 of the writer was for; both are the buffer and the longest text.
     ShortCell,
-    ShortSpace,
+    ShortBuffer,
     LongText,
     Both,
-    /// A plan that is not sound, and no space either.
-    NoSpace,
-    /// Bytes that the space has beyond the text, or is short of; 2 stands for more.
+    /// A plan that is not sound, and a buffer of no bytes.
+    EmptyBuffer,
+    /// Bytes that the buffer has beyond the text, or is short of; 2 stands for more.
     BytesLeft,
     BytesShort,
-    /// Bytes of a text above 65,535, where the space is enough.
+    /// Bytes of a text above 65,535, where the buffer is long enough.
     NearLimit,
-    /// The answer to a shuffled text, whose spelling was then compared.
+    /// The answer to a shuffled text, whose canonical form was then compared.
     Shuffled,
 }
 
@@ -79,17 +79,17 @@ const REQUIRED: &[(&str, &[Group], &[usize])] = {
             &[RunEvent],
             &[0, 11, 13, 14, 15, 16, 17, 18, 19, 41],
         ),
-        ("run, output space (1: enough)", &[Fit], &[0, 1]),
+        ("run, output buffer (1: enough)", &[Fit], &[0, 1]),
         ("19, rows broken", &[RowsBroken], &[1, 2, 3, 4]),
         ("19, unequal, which is named", &[RowNamed], &[1, 2, 3, 4]),
         ("19, equally worst, the first", &[WorstFirst], &[1, 2, 3]),
         ("19, equally worst, later ones", &[WorstLater], &[1, 2, 3]),
         ("writer", &[Write], &[0, 9, 11]),
         ("writer, for the cell", &[ShortCell], &[9]),
-        ("writer, for the space", &[ShortSpace], &[9]),
+        ("writer, for the buffer", &[ShortBuffer], &[9]),
         ("writer, for 65,536 bytes", &[LongText], &[9]),
         ("writer, for both of these", &[Both], &[9]),
-        ("writer, without space", &[NoSpace], &[11]),
+        ("writer, buffer of 0 bytes", &[EmptyBuffer], &[11]),
         ("writer, bytes left (2: more)", &[BytesLeft], &[0, 1, 2]),
         ("writer, bytes short (2: more)", &[BytesShort], &[1, 2]),
         ("writer, bytes above 65,535", &[NearLimit], &[0, 1, 2]),
@@ -122,28 +122,28 @@ impl Counts {
         self.add(group, number);
     }
 
-    /// An answer of the writer in so much space; with the length of the text, if there is a sound
-    /// plan to ask for it.
-    pub fn add_writing(&mut self, number: u32, length: Option<usize>, space: usize) {
+    /// An answer of the writer in a buffer of so many bytes; with the length of the text, if there
+    /// is a sound plan to ask for it.
+    pub fn add_writing(&mut self, number: u32, length: Option<usize>, buffer: usize) {
         self.add(Group::Write, number);
         let Some(length) = length else {
             match number {
                 9 => self.add(Group::ShortCell, number),
-                _ if space == 0 => self.add(Group::NoSpace, number),
+                _ if buffer == 0 => self.add(Group::EmptyBuffer, number),
                 _ => {}
             }
             return;
         };
-        match (length > space, length > MAX_TEXT) {
-            (false, false) => self.add(Group::BytesLeft, (space - length).min(2) as u32),
+        match (length > buffer, length > MAX_TEXT) {
+            (false, false) => self.add(Group::BytesLeft, (buffer - length).min(2) as u32),
             (true, false) => {
-                self.add(Group::ShortSpace, number);
-                self.add(Group::BytesShort, (length - space).min(2) as u32);
+                self.add(Group::ShortBuffer, number);
+                self.add(Group::BytesShort, (length - buffer).min(2) as u32);
             }
             (false, true) => self.add(Group::LongText, number),
             (true, true) => self.add(Group::Both, number),
         }
-        if let (Some(above @ 0..=2), true) = (length.checked_sub(MAX_TEXT - 1), length <= space) {
+        if let (Some(above @ 0..=2), true) = (length.checked_sub(MAX_TEXT - 1), length <= buffer) {
             self.add(Group::NearLimit, above as u32);
         }
     }
@@ -247,18 +247,18 @@ mod tests {
         assert_eq!(of(Group::WorstLater), [0, 0, 1, 0]);
     }
 
-    /// A short cell; an unsound plan; then texts around 65,536 bytes and spaces around the texts.
+    /// A short cell; an unsound plan; then texts around 65,536 bytes and buffers around the texts.
     #[test]
     fn writings_are_counted() {
         let mut counts = Counts::default();
         counts.add_writing(9, None, 0);
         counts.add_writing(11, None, 0);
         counts.add_writing(11, None, 5);
-        for (length, space) in [(30, 30), (30, 31), (65_535, 65_536), (65_536, 99_999)] {
-            counts.add_writing(0, Some(length), space);
+        for (length, buffer) in [(30, 30), (30, 31), (65_535, 65_536), (65_536, 99_999)] {
+            counts.add_writing(0, Some(length), buffer);
         }
-        for (length, space) in [(30, 29), (30, 0), (65_537, 65_537), (65_537, 65_536)] {
-            counts.add_writing(9, Some(length), space);
+        for (length, buffer) in [(30, 29), (30, 0), (65_537, 65_537), (65_537, 65_536)] {
+            counts.add_writing(9, Some(length), buffer);
         }
         let of = |group: Group| {
             let held = (0..NUMBERS).filter(|&number| counts.of(group, number) > 0);
@@ -266,10 +266,10 @@ mod tests {
                 .collect::<Vec<_>>()
         };
         assert_eq!(of(Group::Write), [(0, 4), (9, 5), (11, 2)]);
-        let reasons = [Group::ShortCell, Group::ShortSpace, Group::LongText];
+        let reasons = [Group::ShortCell, Group::ShortBuffer, Group::LongText];
         assert_eq!(reasons.map(of), [[(9, 1)], [(9, 2)], [(9, 1)]]);
         assert_eq!(of(Group::Both), [(9, 1)]);
-        assert_eq!(of(Group::NoSpace), [(11, 1)]);
+        assert_eq!(of(Group::EmptyBuffer), [(11, 1)]);
         assert_eq!(of(Group::BytesLeft), [(0, 1), (1, 2), (2, 1)]);
         assert_eq!(of(Group::BytesShort), [(1, 1), (2, 1)]);
         assert_eq!(of(Group::NearLimit), [(0, 1), (1, 1), (2, 1)]);

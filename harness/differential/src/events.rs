@@ -54,7 +54,7 @@ pub fn event(random: &mut Random, course: Course, plan: &Plan, table: &Table) ->
 
 pub fn load(random: &mut Random, plan: &Plan, table: &Table) -> Call {
     let types = usize::from(plan.types);
-    let job_type = match random.below(100) {
+    let kind = match random.below(100) {
         0..=89 => random.between(1, types.max(1)) as u32,
         _ => bad_near(random, types as u32),
     };
@@ -63,7 +63,7 @@ pub fn load(random: &mut Random, plan: &Plan, table: &Table) -> Call {
         90..=95 => active_number(random, table),
         _ => bad_number(random),
     };
-    Call::Load { job, job_type }
+    Call::Load { job, kind }
 }
 
 pub fn advance(random: &mut Random, table: &Table) -> Call {
@@ -74,7 +74,7 @@ pub fn advance(random: &mut Random, table: &Table) -> Call {
 
 /// Mostly of a job at its last stage, if there is one.
 pub fn unload(random: &mut Random, plan: &Plan, table: &Table) -> Call {
-    let is_last = |job: &&Job| plan.stage_index(job.job_type, job.stage + 1).is_none();
+    let is_last = |job: &&Job| plan.stage_index(job.kind, job.stage + 1).is_none();
     let sound = plan.is_sound() && table.usage(plan).is_some();
     let last: Vec<Job> = match sound {
         true => table.active().iter().filter(is_last).copied().collect(),
@@ -113,7 +113,7 @@ pub fn budget(random: &mut Random, plan: &Plan, table: &Table) -> u32 {
 
 /// Stages still before the jobs of an agreeing table, present ones included.
 pub fn stages_left(plan: &Plan, table: &Table) -> u32 {
-    let left = |job: &Job| u32::from(plan.lengths[job.job_type as usize - 1]) - job.stage + 1;
+    let left = |job: &Job| u32::from(plan.lengths[job.kind as usize - 1]) - job.stage + 1;
     table.active().iter().map(left).sum()
 }
 

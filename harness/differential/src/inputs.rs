@@ -23,7 +23,7 @@ X|X\t|X\t1\t1|X\t1\t|X\t000001|X\t100000|X\t1\r|XX\t1|\tX\t1|X\t-1|x\t1|Y\t1| |\
 /// Last lines without their LF.
 const UNENDED: &[&[u8]] = &[b"#", b"# x", b"L\t1\t1", b"A\t1", b"U\t1", b"X\t1"];
 
-/// An input of any kind.
+/// Any input.
 pub fn input(random: &mut Random) -> Vec<u8> {
     if random.chance(4) {
         return filled_table(random);
@@ -98,11 +98,11 @@ fn event_line(random: &mut Random, types: usize, loaded: &mut Vec<usize>) -> Vec
         0..=29 => {
             let job = any_number(random);
             loaded.push(job);
-            let job_type = match random.below(100) {
+            let kind = match random.below(100) {
                 0..=94 => random.between(1, types),
                 _ => random.pick(&[0, 17, 257, 65_537, 99_999]),
             };
-            format!("L\t{job:0width$}\t{job_type:0width$}")
+            format!("L\t{job:0width$}\t{kind:0width$}")
         }
         30..=64 => format!("A\t{:0width$}", loaded_number(random, loaded)),
         65..=86 => {
@@ -146,11 +146,11 @@ fn filled_table(random: &mut Random) -> Vec<u8> {
     let mut input = join(&lines(random, &plan));
     input.extend_from_slice(b"E\n");
     for job in 1..=random.between(63, 70) {
-        let job_type = match random.chance(97) {
+        let kind = match random.chance(97) {
             true => random.between(1, usize::from(plan.types)),
             false => 3,
         };
-        input.extend(format!("L\t{job}\t{job_type}\n").bytes());
+        input.extend(format!("L\t{job}\t{kind}\n").bytes());
         if random.chance(5) {
             input.extend(event_line(random, 2, &mut vec![job]));
             input.push(b'\n');

@@ -183,10 +183,10 @@ fn change_table(random: &mut Random, plan: &Plan, table: &mut Table) {
         1 => table.count = random.pick(&[0, 64, table.count.wrapping_sub(1), count as u8 + 1]),
         2 => table.jobs[place].number = table.jobs[other].number,
         3 => table.jobs[place].number = bad_near(random, 65_535),
-        4 => table.jobs[place].job_type = bad_near(random, plan.types.into()),
+        4 => table.jobs[place].kind = bad_near(random, plan.types.into()),
         5 => {
-            let job_type = table.jobs[place].job_type as usize;
-            let length = *plan.lengths.get(job_type.wrapping_sub(1)).unwrap_or(&1);
+            let kind = table.jobs[place].kind as usize;
+            let length = *plan.lengths.get(kind.wrapping_sub(1)).unwrap_or(&1);
             table.jobs[place].stage = bad_near(random, length.into());
         }
         6 => table.jobs.swap(place, other),
@@ -203,7 +203,7 @@ fn change_table(random: &mut Random, plan: &Plan, table: &mut Table) {
 fn random_field<'a>(random: &mut Random, job: &'a mut Job) -> &'a mut u32 {
     match random.below(3) {
         0 => &mut job.number,
-        1 => &mut job.job_type,
+        1 => &mut job.kind,
         _ => &mut job.stage,
     }
 }

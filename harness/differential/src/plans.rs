@@ -2,7 +2,7 @@
 //! The sums and the upstream rule are worked out here anew, not taken from the reference.
 
 use crate::random::Random;
-use reference::spelling::text_length;
+use reference::canonical::text_length;
 use reference::{Job, Plan, Table};
 
 #[derive(Clone, Copy, Debug, PartialEq, Eq)]
@@ -35,7 +35,7 @@ pub fn size(random: &mut Random) -> Size {
     }
 }
 
-/// A plan of any kind: with the rows of the upstream rule, with random rows, or without rows.
+/// Any plan: with the rows of the upstream rule, with random rows, or without rows.
 pub fn plan(random: &mut Random) -> Plan {
     let size = size(random);
     let room = random.pick(&[Room::Tight, Room::Tight, Room::Rows, Room::Wide, Room::Any]);
@@ -287,7 +287,7 @@ pub fn used(plan: &Plan, table: &Table) -> ([u32; 32], [u32; 32]) {
     let mut units = [0; 32];
     let mut sums = [0; 32];
     for job in &table.jobs[..usize::from(table.count)] {
-        let earlier = plan.lengths[..job.job_type as usize - 1].iter();
+        let earlier = plan.lengths[..job.kind as usize - 1].iter();
         let start: usize = earlier.map(|&length| usize::from(length)).sum();
         let stage = &plan.stages[start + job.stage as usize - 1];
         for place in 0..32 {
@@ -308,8 +308,8 @@ fn fits(plan: &Plan, table: &Table) -> bool {
 
 /// A job of the plan at a random stage with a number that the table lacks.
 fn job(random: &mut Random, plan: &Plan, table: &Table) -> Job {
-    let job_type = random.between(1, usize::from(plan.types));
-    let stage = random.between(1, usize::from(plan.lengths[job_type - 1]));
+    let kind = random.between(1, usize::from(plan.types));
+    let stage = random.between(1, usize::from(plan.lengths[kind - 1]));
     let (low, high) = random.pick(&[(1, 100), (1, 65_535), (65_400, 65_535)]);
     let mut number = random.between(low, high) as u32;
     while table.jobs.iter().any(|job| job.number == number) {
@@ -317,7 +317,7 @@ fn job(random: &mut Random, plan: &Plan, table: &Table) -> Job {
     }
     Job {
         number,
-        job_type: job_type as u32,
+        kind: kind as u32,
         stage: stage as u32,
     }
 }

@@ -35,10 +35,10 @@ pub fn broken(call: Call, plan: &Plan, table: &Table) -> Option<Broken> {
 fn after(call: Call, table: &Table) -> Table {
     let mut after = table.clone();
     match call {
-        Call::Load { job, job_type } => {
+        Call::Load { job, kind } => {
             after.jobs[usize::from(after.count)] = Job {
                 number: job,
-                job_type,
+                kind,
                 stage: 1,
             };
             after.count += 1;
@@ -65,7 +65,7 @@ mod tests {
         plan.bound[..4].copy_from_slice(&[1, 5, 5, 4]);
         plan.stages[0].weight[..4].copy_from_slice(&[1, 5, 5, 2]);
         plan.stages[1].weight[..4].copy_from_slice(&[9, 0, 5, 6]);
-        let load = |job| Call::Load { job, job_type: 1 };
+        let load = |job| Call::Load { job, kind: 1 };
         let one = after(load(7), &Table::EMPTY);
         let found = |call| {
             broken(call, &plan, &one)

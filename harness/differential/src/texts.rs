@@ -33,7 +33,7 @@ pub struct Text {
     pub accepted: Option<Plan>,
 }
 
-/// A text of any kind.
+/// Any text.
 pub fn text(random: &mut Random) -> Text {
     let refused = |bytes| Text {
         bytes,
@@ -97,7 +97,7 @@ pub fn shuffled(random: &mut Random, plan: &Plan) -> Option<Vec<u8>> {
 }
 
 /// The records of an accepted text by section and numbers, without leading zeros: its plan's
-/// spelling, by the text alone. Keys come first and differ, so the values do not decide.
+/// canonical form, by the text alone. Keys come first and differ, so the values do not decide.
 pub fn sorted(text: &[u8]) -> Vec<u8> {
     let text = std::str::from_utf8(text).expect("an accepted text is ASCII");
     let is_record = |line: &&str| !line.is_empty() && !line.starts_with('#');
@@ -164,10 +164,10 @@ fn given(letter: char, values: &[u8]) -> Vec<Record> {
 
 fn demands(plan: &Plan) -> Vec<Record> {
     let mut records = Vec::new();
-    for (stage, (job_type, number)) in plan.stages.iter().zip(stage_numbers(plan)) {
+    for (stage, (kind, number)) in plan.stages.iter().zip(stage_numbers(plan)) {
         let held = (1..).zip(&stage.demand).filter(|(_, &units)| units != 0);
         for (resource, &units) in held {
-            records.push(('S', vec![job_type, number, resource, units.into()]));
+            records.push(('S', vec![kind, number, resource, units.into()]));
         }
     }
     records
@@ -175,10 +175,10 @@ fn demands(plan: &Plan) -> Vec<Record> {
 
 fn weights(plan: &Plan) -> Vec<Record> {
     let mut records = Vec::new();
-    for (stage, (job_type, number)) in plan.stages.iter().zip(stage_numbers(plan)) {
+    for (stage, (kind, number)) in plan.stages.iter().zip(stage_numbers(plan)) {
         let held = (1..).zip(&stage.weight).filter(|(_, &weight)| weight != 0);
         for (row, &weight) in held {
-            records.push(('A', vec![row, job_type, number, weight.into()]));
+            records.push(('A', vec![row, kind, number, weight.into()]));
         }
     }
     records
@@ -188,7 +188,7 @@ fn weights(plan: &Plan) -> Vec<Record> {
 fn stage_numbers(plan: &Plan) -> Vec<(u32, u32)> {
     let types = (1u32..).zip(plan.lengths);
     types
-        .flat_map(|(job_type, length)| (1..=u32::from(length)).map(move |stage| (job_type, stage)))
+        .flat_map(|(kind, length)| (1..=u32::from(length)).map(move |stage| (kind, stage)))
         .collect()
 }
 
@@ -371,14 +371,14 @@ fn totals(random: &mut Random) -> Vec<u8> {
     let types = random.between(4, 16);
     let mut lines: Lines = vec![format!("C\t1\t{types}\t0").into(), b"R\t1\t1".to_vec()];
     let mut total = 0;
-    for job_type in 1..=types {
+    for kind in 1..=types {
         let left = 128usize.saturating_sub(total);
         let exact = left.clamp(1, 32);
         let length = random.pick(&[1, 32, 32, exact, (exact + 1).min(32), 33]);
-        lines.push(format!("T\t{job_type}\t{length}").into());
+        lines.push(format!("T\t{kind}\t{length}").into());
         total += length;
         if random.chance(10) {
-            let again = random.between(1, job_type);
+            let again = random.between(1, kind);
             let length = random.pick(&[0, 1, 32, 33]);
             lines.push(format!("T\t{again}\t{length}").into());
         }
@@ -444,7 +444,7 @@ mod tests {
         assert_eq!(sorted(text), expected);
     }
 
-    /// Their length, and that of their spelling, by the text alone.
+    /// Their length, and that of their canonical form, by the text alone.
     #[test]
     fn plans_of_a_text_length() {
         for length in [10_000, 65_535, 65_536, 65_537, 90_000] {

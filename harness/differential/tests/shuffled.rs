@@ -1,5 +1,5 @@
 //! Texts of the same plans in another order, with leading zeros, comments and empty lines: each is
-//! read, and written as the plan's one spelling (document 02, S-3).
+//! read, and written in the plan's canonical form (document 02, S-3).
 
 use differential::counts::Group;
 use differential::run_shuffled;
@@ -7,7 +7,7 @@ use differential::run_shuffled;
 const TEXTS: u64 = 10_000;
 
 #[test]
-fn one_spelling() {
+fn one_canonical_form() {
     let outcome = run_shuffled(TEXTS, 2026, 2);
     assert!(
         outcome.failures.is_empty(),
@@ -15,6 +15,6 @@ fn one_spelling() {
         outcome.failures.join("\n")
     );
     let texts = outcome.counts.of(Group::Shuffled, 0);
-    println!("{texts} shuffled texts, each written as its plan's one spelling");
+    println!("{texts} shuffled texts, each written in its plan's canonical form");
     assert_eq!(texts, TEXTS);
 }

@@ -1,4 +1,4 @@
-//! The worked runs of document 01, pulls, the row that 19 names and the spelling of a plan
+//! The worked runs of document 01, pulls, the row that 19 names and the canonical form of a plan
 //! (document 02, S-1 to S-3), asked of the library itself, without the reference.
 
 use differential::cells;
@@ -10,11 +10,11 @@ use std::collections::BTreeSet;
 #[path = "../../reference/tests/document/mod.rs"]
 mod document;
 
-use document::rows::{crowded, weighed, ADVANCES, LOADS, RUN};
-use document::spellings::{
-    assert_spellings, longest, CROSSING_LENGTH, ROW_OF_ONE_DIGIT, SMALLEST, SMALLEST_LENGTH,
-    SPELLED, ZEROS,
+use document::canonical::{
+    assert_canonical, longest, CANONICAL, CROSSING_LENGTH, ROW_OF_ONE_DIGIT, SMALLEST,
+    SMALLEST_LENGTH, ZEROS,
 };
+use document::rows::{crowded, weighed, ADVANCES, LOADS, RUN};
 use document::{tabbed, table, CROSSING, EQUATION_40, WITHOUT_ROWS};
 
 fn read(text: &str) -> (Answer, Vec<u8>) {
@@ -35,7 +35,7 @@ fn cell(text: &str, counts: [u8; 6]) -> Vec<u8> {
 fn counts(bytes: &[u8]) -> [u8; 6] {
     let mut counts = [0; 6];
     for job in cells::decode_table(bytes).active() {
-        counts[(job.job_type as usize - 1) * 3 + job.stage as usize - 1] += 1;
+        counts[(job.kind as usize - 1) * 3 + job.stage as usize - 1] += 1;
     }
     counts
 }
@@ -66,22 +66,22 @@ fn load(bytes: &mut [u8]) -> Answer {
 /// No byte of a text.
 const FILLING: u8 = 0xEE;
 
-/// Answer and space after a writing into so much of it; neither the cell nor what lies around the
-/// space changes.
+/// Answer and buffer after a writing into so many bytes; neither the cell nor what lies around the
+/// buffer changes.
 fn write(bytes: &[u8], length: usize) -> (Answer, Vec<u8>) {
     let before = bytes.to_vec();
-    let mut space = Guarded::new(&vec![FILLING; length]);
-    let answer = rilthoss::write_plan(bytes, space.inner_mut());
+    let mut buffer = Guarded::new(&vec![FILLING; length]);
+    let answer = rilthoss::write_plan(bytes, buffer.inner_mut());
     assert_eq!(bytes, before);
-    assert_eq!(space.check(), Ok(()));
-    (answer, space.inner().to_vec())
+    assert_eq!(buffer.check(), Ok(()));
+    (answer, buffer.inner().to_vec())
 }
 
-/// The text of a cell's plan; what lies beyond it in the space stays.
+/// The text of a cell's plan; what lies beyond it in the buffer stays.
 fn written(bytes: &[u8], length: usize) -> Vec<u8> {
-    let (found, space) = write(bytes, length);
+    let (found, buffer) = write(bytes, length);
     assert_eq!(found, answer(0, found.place(), 0));
-    let (text, beyond) = space.split_at(found.length());
+    let (text, beyond) = buffer.split_at(found.length());
     assert!(beyond.iter().all(|&byte| byte == FILLING));
     text.to_vec()
 }
@@ -198,9 +198,9 @@ fn equation_40() {
         ([1, 2, 0, 0, 0, 0], 2, [1, 2, 0, 1, 0, 0], 2),
         ([0, 0, 0, 0, 2, 0], 1, [1, 0, 0, 0, 2, 0], 1),
     ];
-    for (before, job_type, after, row) in cases {
+    for (before, kind, after, row) in cases {
         let mut bytes = cell(EQUATION_40, before);
-        assert_eq!(rilthoss::load(&mut bytes, 9, job_type), answer(19, row, 0));
+        assert_eq!(rilthoss::load(&mut bytes, 9, kind), answer(19, row, 0));
         let mut bytes = cell(EQUATION_40, after);
         assert_eq!(rilthoss::unload(&mut bytes, 1), answer(12, 0, 0));
     }
@@ -364,8 +364,8 @@ fn reachable_states() {
 }
 
 #[test]
-fn spellings() {
-    assert_spellings(|text| written(&cell(text, [0; 6]), 65_536));
+fn canonical_forms() {
+    assert_canonical(|text| written(&cell(text, [0; 6]), 65_536));
 }
 
 /// By the bytes of its values, without reading a text.
@@ -383,10 +383,10 @@ fn zeros_are_left_out() {
 
 /// None, one byte short, just enough, one more. Neither the jobs nor bytes after the cell matter.
 #[test]
-fn spaces() {
+fn buffers() {
     assert_eq!(tabbed(SMALLEST).len(), SMALLEST_LENGTH);
     assert_eq!(tabbed(CROSSING).len(), CROSSING_LENGTH);
-    for text in SPELLED {
+    for text in CANONICAL {
         let length = text.len();
         let bytes = cell(text, [0; 6]);
         let mut crowded = bytes.clone();
@@ -433,7 +433,7 @@ fn changed(text: &str, place: usize, byte: u8) -> Vec<u8> {
     bytes
 }
 
-/// 9 for a cell that is too short before 11; 11 before 9 for the space or for 65,536 bytes.
+/// 9 for a cell that is too short before 11; 11 before 9 for the buffer or for 65,536 bytes.
 #[test]
 fn unwritten_plans() {
     let mut long = too_long();

@@ -39,7 +39,7 @@ pub fn drain(plan: &Plan, table: &mut Table, budget: u32) -> Drained {
 fn move_earliest(plan: &Plan, table: &mut Table, usage: &mut Usage) -> bool {
     for position in 0..table.active().len() {
         let job = table.jobs[position];
-        let is_last = plan.stage_index(job.job_type, job.stage + 1).is_none();
+        let is_last = plan.stage_index(job.kind, job.stage + 1).is_none();
         let attempt = if is_last { unload_at } else { advance_at };
         if attempt(plan, table, usage, position).is_ok() {
             return true;

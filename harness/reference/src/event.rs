@@ -13,7 +13,7 @@ pub struct Answer {
 
 #[derive(Clone, Copy, Debug, PartialEq, Eq)]
 pub enum Event {
-    Load { job: u32, job_type: u32 },
+    Load { job: u32, kind: u32 },
     Advance { job: u32 },
     Unload { job: u32 },
     Pull { job: u32 },
@@ -22,7 +22,7 @@ pub enum Event {
 impl Event {
     pub fn apply(self, plan: &Plan, table: &mut Table) -> Answer {
         match self {
-            Event::Load { job, job_type } => load(plan, table, job, job_type),
+            Event::Load { job, kind } => load(plan, table, job, kind),
             Event::Advance { job } => advance(plan, table, job),
             Event::Unload { job } => unload(plan, table, job),
             Event::Pull { job } => pull(plan, table, job),
@@ -30,8 +30,8 @@ impl Event {
     }
 }
 
-pub fn load(plan: &Plan, table: &mut Table, job: u32, job_type: u32) -> Answer {
-    answer(try_load(plan, table, job, job_type))
+pub fn load(plan: &Plan, table: &mut Table, job: u32, kind: u32) -> Answer {
+    answer(try_load(plan, table, job, kind))
 }
 
 pub fn advance(plan: &Plan, table: &mut Table, job: u32) -> Answer {
@@ -60,21 +60,21 @@ fn refusal(number: u32) -> Answer {
     Answer { number, place: 0 }
 }
 
-fn try_load(plan: &Plan, table: &mut Table, number: u32, job_type: u32) -> Result<(), Answer> {
+fn try_load(plan: &Plan, table: &mut Table, number: u32, kind: u32) -> Result<(), Answer> {
     let mut usage = ask_agreement(plan, table)?;
     if find(table, number)?.is_some() {
         return Err(refusal(14));
     }
-    index(job_type, plan.types).ok_or(refusal(15))?;
+    index(kind, plan.types).ok_or(refusal(15))?;
     if table.active().len() == MAX_JOBS {
         return Err(refusal(16));
     }
-    let first = plan.stage_index(job_type, 1).ok_or(refusal(15))?;
+    let first = plan.stage_index(kind, 1).ok_or(refusal(15))?;
     usage.add(&plan.stages[first]);
     ask_limits(plan, &usage)?;
     table.push(Job {
         number,
-        job_type,
+        kind,
         stage: 1,
     });
     Ok(())
@@ -131,8 +131,8 @@ pub(crate) fn advance_at(
     position: usize,
 ) -> Result<(), Answer> {
     let job = table.jobs[position];
-    let old = plan.stage_index(job.job_type, job.stage);
-    let new = plan.stage_index(job.job_type, job.stage + 1);
+    let old = plan.stage_index(job.kind, job.stage);
+    let new = plan.stage_index(job.kind, job.stage + 1);
     let (Some(old), Some(new)) = (old, new) else {
         return Err(refusal(17));
     };
@@ -154,12 +154,10 @@ pub(crate) fn unload_at(
     position: usize,
 ) -> Result<(), Answer> {
     let job = table.jobs[position];
-    if plan.stage_index(job.job_type, job.stage + 1).is_some() {
+    if plan.stage_index(job.kind, job.stage + 1).is_some() {
         return Err(refusal(17));
     }
-    let last = plan
-        .stage_index(job.job_type, job.stage)
-        .ok_or(refusal(17))?;
+    let last = plan.stage_index(job.kind, job.stage).ok_or(refusal(17))?;
     usage.subtract(&plan.stages[last]);
     table.remove(position);
     Ok(())

@@ -3,11 +3,11 @@
 
 #![forbid(unsafe_code)]
 
+pub mod canonical;
 pub mod drain;
 pub mod event;
 pub mod plan;
 pub mod run;
-pub mod spelling;
 pub mod table;
 pub mod text;
 pub mod upstream;

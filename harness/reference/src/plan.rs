@@ -56,10 +56,10 @@ impl Plan {
     }
 
     /// Where a stage of a type stands in `stages`, if the plan has it; both count from 1.
-    pub fn stage_index(&self, job_type: u32, stage: u32) -> Option<usize> {
-        let job_type = index(job_type, self.types)?;
-        let stage = index(stage, *self.lengths.get(job_type)?)?;
-        let earlier = &self.lengths[..job_type];
+    pub fn stage_index(&self, kind: u32, stage: u32) -> Option<usize> {
+        let kind = index(kind, self.types)?;
+        let stage = index(stage, *self.lengths.get(kind)?)?;
+        let earlier = &self.lengths[..kind];
         let start: usize = earlier.iter().map(|&length| usize::from(length)).sum();
         Some(start + stage)
     }

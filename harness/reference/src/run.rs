@@ -70,8 +70,8 @@ fn read_event(line: &[u8]) -> Option<Event> {
     let job = number(parts.next()?)?;
     let event = match letter {
         b"L" => {
-            let job_type = number(parts.next()?)?;
-            Event::Load { job, job_type }
+            let kind = number(parts.next()?)?;
+            Event::Load { job, kind }
         }
         b"A" => Event::Advance { job },
         b"U" => Event::Unload { job },

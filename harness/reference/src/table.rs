@@ -9,14 +9,14 @@ pub const MAX_NUMBER: u32 = 65_535;
 #[derive(Clone, Copy, Debug, PartialEq, Eq)]
 pub struct Job {
     pub number: u32,
-    pub job_type: u32,
+    pub kind: u32,
     pub stage: u32,
 }
 
 impl Job {
     pub const NONE: Job = Job {
         number: 0,
-        job_type: 0,
+        kind: 0,
         stage: 0,
     };
 }
@@ -72,7 +72,7 @@ impl Table {
             if !is_number || earlier.iter().any(|other| other.number == job.number) {
                 return None;
             }
-            usage.add(&plan.stages[plan.stage_index(job.job_type, job.stage)?]);
+            usage.add(&plan.stages[plan.stage_index(job.kind, job.stage)?]);
         }
         let is_kept = usage.exceeded(plan).is_none() && usage.broken(plan).is_none();
         is_kept.then_some(usage)

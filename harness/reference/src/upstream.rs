@@ -64,10 +64,10 @@ fn types(plan: &Plan) -> impl Iterator<Item = (usize, &[Stage])> {
 /// The one resource that each stage demands, in the order of the stages (the question of 22).
 fn demanded_resources(plan: &Plan) -> Result<Vec<usize>, Check> {
     let mut demanded = Vec::with_capacity(plan.total());
-    for (job_type, (_, stages)) in types(plan).enumerate() {
+    for (kind, (_, stages)) in types(plan).enumerate() {
         for (position, stage) in stages.iter().enumerate() {
             let resource = only_resource(stage);
-            let place = fault(22, job_type as u32 + 1, position as u32 + 1);
+            let place = fault(22, kind as u32 + 1, position as u32 + 1);
             demanded.push(resource.ok_or(place)?);
         }
     }

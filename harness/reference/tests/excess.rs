@@ -10,10 +10,7 @@ mod document;
 use document::rows::{crowded, weighed, ADVANCES, LOADS, RUN};
 use document::{answer, plan, tabbed, table};
 
-const LOAD: Event = Event::Load {
-    job: 99,
-    job_type: 1,
-};
+const LOAD: Event = Event::Load { job: 99, kind: 1 };
 
 /// What the row test gives for jobs at these stages, whether their table agrees or not.
 fn row_test(plan: &Plan, stages: &[usize]) -> Option<BrokenRow> {

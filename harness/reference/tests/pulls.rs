@@ -15,10 +15,10 @@ const ROOMY: &str = "C 1 2 0/R 1 64/T 1 3/T 2 1/S 1 1 1 1/S 1 2 1 1/S 1 3 1 1/S 
 /// A table of jobs by number, type and stage.
 fn jobs(list: &[[u32; 3]]) -> Table {
     let mut table = Table::EMPTY;
-    for &[number, job_type, stage] in list {
+    for &[number, kind, stage] in list {
         table.push(Job {
             number,
-            job_type,
+            kind,
             stage,
         });
     }
@@ -61,9 +61,9 @@ fn whole_run() {
 #[test]
 fn every_stage() {
     let crossing = plan(CROSSING);
-    for job_type in [1, 2] {
+    for kind in [1, 2] {
         for stage in [1, 2, 3] {
-            let mut table = jobs(&[[65_535, job_type, stage]]);
+            let mut table = jobs(&[[65_535, kind, stage]]);
             assert_eq!(event::pull(&crossing, &mut table, 65_535), answer(0, 0));
             assert_eq!(table, Table::EMPTY);
         }
@@ -121,9 +121,9 @@ fn weights_are_freed() {
         ([1, 2, 0, 0, 0, 0], 2, 2, 3),
         ([0, 0, 0, 0, 2, 0], 1, 1, 1),
     ];
-    for (before, job_type, row, pulled) in cases {
+    for (before, kind, row, pulled) in cases {
         let mut table = table(before);
-        let load = |table: &mut Table| event::load(&plan, table, 9, job_type);
+        let load = |table: &mut Table| event::load(&plan, table, 9, kind);
         assert_eq!(load(&mut table), answer(19, row));
         assert_eq!(event::pull(&plan, &mut table, pulled), answer(0, 0));
         assert_eq!(load(&mut table), answer(0, 0));

@@ -20,7 +20,7 @@ const TABLE_1: &str = "000000 100000 000100 010000 100100 000010 110000 001000 0
 fn state(table: &Table) -> State {
     let mut state = [0; 6];
     for job in table.active() {
-        state[(job.job_type as usize - 1) * 3 + job.stage as usize - 1] += 1;
+        state[(job.kind as usize - 1) * 3 + job.stage as usize - 1] += 1;
     }
     state
 }
@@ -28,7 +28,7 @@ fn state(table: &Table) -> State {
 /// The states after each event that is admitted in a state.
 fn successors(plan: &Plan, from: State) -> BTreeSet<State> {
     let before = table(from);
-    let loads = (1..=2).map(|job_type| Event::Load { job: 99, job_type });
+    let loads = (1..=2).map(|kind| Event::Load { job: 99, kind });
     let moves = before.active().iter().map(|job| job.number);
     let moves = moves.flat_map(|job| [Event::Advance { job }, Event::Unload { job }]);
     let mut found = BTreeSet::new();
@@ -103,7 +103,7 @@ fn pulls_stay_within_the_states() {
             let pulled = Event::Pull { job: job.number }.apply(&plan, &mut after);
             assert_eq!((pulled.number, pulled.place), (0, 0));
             let mut expected = before;
-            expected[(job.job_type as usize - 1) * 3 + job.stage as usize - 1] -= 1;
+            expected[(job.kind as usize - 1) * 3 + job.stage as usize - 1] -= 1;
             assert_eq!(state(&after), expected);
             assert!(states.contains(&expected));
         }

@@ -86,9 +86,9 @@ fn equation_40() {
         ([1, 2, 0, 0, 0, 0], 2, [1, 2, 0, 1, 0, 0], 2),
         ([0, 0, 0, 0, 2, 0], 1, [1, 0, 0, 0, 2, 0], 1),
     ];
-    for (before, job_type, after, row) in broken {
+    for (before, kind, after, row) in broken {
         assert!(table(after).usage(&plan).is_none());
-        let loaded = event::load(&plan, &mut table(before), 9, job_type);
+        let loaded = event::load(&plan, &mut table(before), 9, kind);
         assert_eq!(loaded, answer(19, row));
         assert_eq!(event::unload(&plan, &mut table(after), 1), answer(12, 0));
     }

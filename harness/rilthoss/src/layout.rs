@@ -67,7 +67,7 @@ mod tests {
 
     /// A cell that was stored before is read as it was written.
     #[test]
-    fn no_place_has_moved() {
+    fn no_offset_has_moved() {
         use offset::*;
         assert_eq!([RESOURCES, TYPES, ROWS], [0, 1, 2]);
         assert_eq!([CAPACITIES, RANKS, BOUNDS, LENGTHS], [3, 35, 67, 131]);

@@ -36,11 +36,11 @@ mod c {
         pub fn rilthoss_write_plan(
             cell: *const u8,
             cell_length: usize,
-            space: *mut u8,
-            space_length: usize,
+            buffer: *mut u8,
+            buffer_length: usize,
         ) -> u64;
         pub fn rilthoss_check(cell: *const u8, cell_length: usize) -> u64;
-        pub fn rilthoss_load(cell: *mut u8, cell_length: usize, job: u32, job_type: u32) -> u64;
+        pub fn rilthoss_load(cell: *mut u8, cell_length: usize, job: u32, kind: u32) -> u64;
         pub fn rilthoss_advance(cell: *mut u8, cell_length: usize, job: u32) -> u64;
         pub fn rilthoss_unload(cell: *mut u8, cell_length: usize, job: u32) -> u64;
         pub fn rilthoss_pull(cell: *mut u8, cell_length: usize, job: u32) -> u64;
@@ -48,8 +48,8 @@ mod c {
         pub fn rilthoss_run(
             input: *const u8,
             input_length: usize,
-            space: *mut u8,
-            space_length: usize,
+            buffer: *mut u8,
+            buffer_length: usize,
         ) -> usize;
     }
 }
@@ -71,11 +71,11 @@ pub fn shown(text: &[u8]) -> Range<usize> {
     (ends & 0xFFFF_FFFF) as usize..(ends >> 32) as usize
 }
 
-/// Writes the cell's plan as text, in its one spelling, to the beginning of the space. 0 and the
-/// [length](Answer::length), or 11, or 9: the text is longer than the space or than [`MAX_TEXT`]. A
+/// Writes the cell's plan as text, in its canonical form, to the beginning of the buffer. 0 and the
+/// [length](Answer::length), or 11, or 9: the text is longer than the buffer or than [`MAX_TEXT`]. A
 /// refusal changes no byte.
-pub fn write_plan(cell: &[u8], space: &mut [u8]) -> Answer {
-    unsafe { c::rilthoss_write_plan(cell.as_ptr(), cell.len(), space.as_mut_ptr(), space.len()) }
+pub fn write_plan(cell: &[u8], buffer: &mut [u8]) -> Answer {
+    unsafe { c::rilthoss_write_plan(cell.as_ptr(), cell.len(), buffer.as_mut_ptr(), buffer.len()) }
         .into()
 }
 
@@ -89,8 +89,8 @@ pub fn check(cell: &[u8]) -> Answer {
 /// Puts a job at stage 1 of its type. 0 admitted, or 11 to 16, or 18 with the lowest resource exceeded
 /// as its [place](Answer::place), or 19 with the row exceeded by the most, of equals the lowest. A
 /// refusal changes no byte.
-pub fn load(cell: &mut [u8], job: u32, job_type: u32) -> Answer {
-    unsafe { c::rilthoss_load(cell.as_mut_ptr(), cell.len(), job, job_type) }.into()
+pub fn load(cell: &mut [u8], job: u32, kind: u32) -> Answer {
+    unsafe { c::rilthoss_load(cell.as_mut_ptr(), cell.len(), job, kind) }.into()
 }
 
 /// Moves a job to its next stage; answered as a load is, by 17 in place of 15 and 16.
@@ -115,8 +115,15 @@ pub fn drain(cell: &mut [u8], budget: u32) -> Answer {
     unsafe { c::rilthoss_drain(cell.as_mut_ptr(), cell.len(), budget) }.into()
 }
 
-/// The whole run of `cellmoves`, from its input to what it prints. The space then begins with the
-/// output, and the answer is its length; 0, and the space unchanged, if it does not fit.
-pub fn run(input: &[u8], space: &mut [u8]) -> usize {
-    unsafe { c::rilthoss_run(input.as_ptr(), input.len(), space.as_mut_ptr(), space.len()) }
+/// The whole run of `cellmoves`, from its input to what it prints. The buffer then begins with the
+/// output, and the answer is its length; 0, and the buffer unchanged, if it does not fit.
+pub fn run(input: &[u8], buffer: &mut [u8]) -> usize {
+    unsafe {
+        c::rilthoss_run(
+            input.as_ptr(),
+            input.len(),
+            buffer.as_mut_ptr(),
+            buffer.len(),
+        )
+    }
 }

@@ -20,7 +20,7 @@ pub const REPEATED: u32 = 6;
 /// A C, R, T, S or B is missing, or K is given for some resources only.
 pub const INCOMPLETE: u32 = 7;
 
-/// Of bytes: a written plan has no room in the space; and, beyond the papers' list and for a host
+/// Of bytes: a written plan has no room in the buffer; and, beyond the papers' list and for a host
 /// alone, fewer bytes than a cell has.
 pub const NO_ROOM: u32 = 9;
 

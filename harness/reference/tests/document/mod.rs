@@ -3,8 +3,8 @@
 
 #![allow(dead_code)] // each test file uses some of these
 
+pub mod canonical;
 pub mod rows;
-pub mod spellings;
 
 use reference::event::Answer;
 use reference::text::read_plan;
@@ -43,7 +43,7 @@ pub fn table(counts: [u8; 6]) -> Table {
         for _ in 0..count {
             table.push(Job {
                 number: u32::from(table.count) + 1,
-                job_type: place as u32 / 3 + 1,
+                kind: place as u32 / 3 + 1,
                 stage: place as u32 % 3 + 1,
             });
         }

@@ -1,4 +1,4 @@
-//! Plans and their one spelling (document 02, S-3), worked out by hand.
+//! Plans and their canonical form (document 02, S-3), worked out by hand.
 
 use super::CROSSING;
 
@@ -19,8 +19,8 @@ const SHUFFLED: &str = "#/C 003 02 00003//R 3 1/# R 3 1/R 00001 00001/R 2 01/T 2
 /// weight, row 2 one, and no resource has a rank. Both bounds are 0 and are written.
 pub const ZEROS: &str = "C 2 1 2/R 1 1/R 2 1/T 1 2/S 1 1 2 1/S 1 2 2 1/B 1 0/B 2 0/A 2 1 2 1/";
 
-/// Texts that are their own spelling.
-pub const SPELLED: &[&str] = &[
+/// Texts in canonical form.
+pub const CANONICAL: &[&str] = &[
     SMALLEST,
     CROSSING,
     ZEROS,
@@ -63,20 +63,20 @@ fn disguised(text: &str) -> String {
     disguised
 }
 
-/// The spelling of every text above: as it stands, in other words and shuffled.
-pub fn assert_spellings(spelled: impl Fn(&str) -> Vec<u8>) {
-    let assert_spelled = |text: &str, spelling: &str| {
-        let written = String::from_utf8(spelled(text)).expect("a text is ASCII");
-        assert_eq!(written.replace('\t', " ").replace('\n', "/"), spelling);
+/// The canonical form of every text above: as it stands, in other words and shuffled.
+pub fn assert_canonical(written: impl Fn(&str) -> Vec<u8>) {
+    let assert_written = |text: &str, canonical: &str| {
+        let found = String::from_utf8(written(text)).expect("a text is ASCII");
+        assert_eq!(found.replace('\t', " ").replace('\n', "/"), canonical);
     };
-    for spelling in SPELLED {
-        assert_spelled(spelling, spelling);
-        assert_spelled(&disguised(spelling), spelling);
+    for canonical in CANONICAL {
+        assert_written(canonical, canonical);
+        assert_written(&disguised(canonical), canonical);
     }
-    assert_spelled(SHUFFLED, CROSSING);
+    assert_written(SHUFFLED, CROSSING);
 }
 
-/// A text of 65,536 bytes that is its own spelling, with the highest counts and 8 stages in each
+/// A text of 65,536 bytes in canonical form, with the highest counts and 8 stages in each
 /// type. A record has 2 bytes, and for each field 1 and its digits. The numbers 1 to 32 have 55
 /// digits, 1 to 16 have 23, so:
 ///
@@ -88,12 +88,12 @@ pub fn assert_spellings(spelled: impl Fn(&str) -> Vec<u8>) {
 ///
 /// 11 + 215 + 103 + 45,696 + 223 + 19,288 = 65,536.
 pub fn longest() -> String {
-    let stages = || (1..=16).flat_map(|job_type| (1..=8).map(move |stage| (job_type, stage)));
+    let stages = || (1..=16).flat_map(|kind| (1..=8).map(move |stage| (kind, stage)));
     let mut text = "C 32 16 32/".to_string();
     text.extend((1..=32).map(|resource| format!("R {resource} 1/")));
-    text.extend((1..=16).map(|job_type| format!("T {job_type} 8/")));
-    for (job_type, stage) in stages() {
-        text.extend((1..=32).map(|resource| format!("S {job_type} {stage} {resource} 1/")));
+    text.extend((1..=16).map(|kind| format!("T {kind} 8/")));
+    for (kind, stage) in stages() {
+        text.extend((1..=32).map(|resource| format!("S {kind} {stage} {resource} 1/")));
     }
     for row in 1..=32 {
         let bound = if row <= 8 { 10 } else { 9 };
@@ -101,8 +101,7 @@ pub fn longest() -> String {
     }
     for row in 20..=32 {
         let weight = if row <= 21 { 10 } else { 1 };
-        let weights =
-            stages().map(|(job_type, stage)| format!("A {row} {job_type} {stage} {weight}/"));
+        let weights = stages().map(|(kind, stage)| format!("A {row} {kind} {stage} {weight}/"));
         text.extend(weights);
     }
     text

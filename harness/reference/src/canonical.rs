@@ -1,4 +1,4 @@
-//! The one spelling of a plan (document 02, S-3): the C record, then the sections in order with
+//! The canonical form of a plan (document 02, S-3): the C record, then the sections in order with
 //! rising keys, each record that the plan needs and no other byte.
 
 use crate::plan::{Plan, Stage};
@@ -11,8 +11,8 @@ pub struct Writing {
     pub length: u32,
 }
 
-/// Writes a plan's text to the beginning of a space; a refusal leaves the space as it was.
-pub fn write_plan(plan: &Plan, space: &mut [u8]) -> Writing {
+/// Writes a plan's text to the beginning of a buffer; a refusal leaves the buffer as it was.
+pub fn write_plan(plan: &Plan, buffer: &mut [u8]) -> Writing {
     if !plan.is_sound() {
         return refusal(11);
     }
@@ -20,7 +20,7 @@ pub fn write_plan(plan: &Plan, space: &mut [u8]) -> Writing {
     if length > MAX_TEXT {
         return refusal(9);
     }
-    let Some(text) = space.get_mut(..length) else {
+    let Some(text) = buffer.get_mut(..length) else {
         return refusal(9);
     };
     let mut rest = text;
@@ -54,22 +54,22 @@ fn for_each_record(plan: &Plan, mut record: impl FnMut(u8, &[u16])) {
     for (resource, capacity) in given(&plan.capacity) {
         record(b'R', &[resource, capacity]);
     }
-    for (job_type, length) in given(&plan.lengths) {
-        record(b'T', &[job_type, length]);
+    for (kind, length) in given(&plan.lengths) {
+        record(b'T', &[kind, length]);
     }
-    for (job_type, number, stage) in stages(plan) {
+    for (kind, number, stage) in stages(plan) {
         for (resource, units) in given(&stage.demand) {
-            record(b'S', &[job_type, number, resource, units]);
+            record(b'S', &[kind, number, resource, units]);
         }
     }
     for (row, &bound) in (1..=u16::from(plan.rows)).zip(&plan.bound) {
         record(b'B', &[row, bound]);
     }
     for row in 1..=u16::from(plan.rows) {
-        for (job_type, number, stage) in stages(plan) {
+        for (kind, number, stage) in stages(plan) {
             let weight = stage.weight[usize::from(row) - 1];
             if weight != 0 {
-                record(b'A', &[row, job_type, number, weight.into()]);
+                record(b'A', &[row, kind, number, weight.into()]);
             }
         }
     }
@@ -87,12 +87,12 @@ fn given(values: &[u8]) -> impl Iterator<Item = (u16, u16)> + '_ {
 /// The stages with their types and numbers, in the order of both.
 fn stages(plan: &Plan) -> impl Iterator<Item = (u16, u16, &Stage)> {
     let mut rest = &plan.stages[..];
-    (1..).zip(plan.lengths).flat_map(move |(job_type, length)| {
+    (1..).zip(plan.lengths).flat_map(move |(kind, length)| {
         let (own, later) = rest.split_at(length.into());
         rest = later;
         (1..)
             .zip(own)
-            .map(move |(number, stage)| (job_type, number, stage))
+            .map(move |(number, stage)| (kind, number, stage))
     })
 }
 

@@ -1,14 +1,14 @@
-//! The one spelling of a plan (document 02, S-3), worked out by hand.
+//! The canonical form of a plan (document 02, S-3), worked out by hand.
 
-use reference::spelling::{text_length, write_plan, Writing};
+use reference::canonical::{text_length, write_plan, Writing};
 use reference::text::{read_plan, MAX_TEXT};
 use reference::Plan;
 
 mod document;
 
-use document::spellings::{
-    assert_spellings, longest, CROSSING_LENGTH, ROW_OF_ONE_DIGIT, SMALLEST, SMALLEST_LENGTH,
-    SPELLED, ZEROS,
+use document::canonical::{
+    assert_canonical, longest, CANONICAL, CROSSING_LENGTH, ROW_OF_ONE_DIGIT, SMALLEST,
+    SMALLEST_LENGTH, ZEROS,
 };
 use document::{plan, tabbed, CROSSING};
 
@@ -25,33 +25,33 @@ fn writing(number: u32, length: usize) -> Writing {
     }
 }
 
-/// The text of a plan, written into so much space; what lies beyond it stays.
+/// The text of a plan, written into a buffer of so many bytes; what lies beyond it stays.
 fn written(plan: &Plan, length: usize) -> Vec<u8> {
-    let mut space = vec![FILLING; length];
-    let answer = write_plan(plan, &mut space);
-    let text = &space[..answer.length as usize];
+    let mut buffer = vec![FILLING; length];
+    let answer = write_plan(plan, &mut buffer);
+    let text = &buffer[..answer.length as usize];
     assert_eq!(answer, writing(0, text.len()));
-    assert!(space[text.len()..].iter().all(|&byte| byte == FILLING));
+    assert!(buffer[text.len()..].iter().all(|&byte| byte == FILLING));
     text.to_vec()
 }
 
-/// A refusal has length 0 and writes nothing into so much space.
+/// A refusal has length 0 and writes nothing into a buffer of so many bytes.
 fn assert_refused(plan: &Plan, number: u32, length: usize) {
-    let mut space = vec![FILLING; length];
-    assert_eq!(write_plan(plan, &mut space), writing(number, 0));
-    assert_eq!(space, vec![FILLING; length]);
+    let mut buffer = vec![FILLING; length];
+    assert_eq!(write_plan(plan, &mut buffer), writing(number, 0));
+    assert_eq!(buffer, vec![FILLING; length]);
 }
 
 #[test]
-fn spellings() {
-    assert_spellings(|text| written(&plan(text), MAX_TEXT));
+fn canonical_forms() {
+    assert_canonical(|text| written(&plan(text), MAX_TEXT));
 }
 
-/// What is written is read as the same plan, and different plans have different spellings.
+/// What is written is read as the same plan, and different plans have different texts.
 #[test]
 fn read_again() {
     let longest = longest();
-    let texts = SPELLED.iter().copied().chain([&*longest]);
+    let texts = CANONICAL.iter().copied().chain([&*longest]);
     let plans: Vec<Plan> = texts.map(plan).collect();
     for (place, plan) in plans.iter().enumerate() {
         let text = written(plan, MAX_TEXT);
@@ -101,10 +101,10 @@ fn zeros() {
 
 /// None, one byte short, just enough, one more.
 #[test]
-fn spaces() {
+fn buffers() {
     assert_eq!(tabbed(SMALLEST).len(), SMALLEST_LENGTH);
     assert_eq!(tabbed(CROSSING).len(), CROSSING_LENGTH);
-    for text in SPELLED {
+    for text in CANONICAL {
         let plan = plan(text);
         let length = text_length(&plan);
         assert_eq!(length, text.len());
@@ -154,7 +154,7 @@ fn far_too_long() {
     }
 }
 
-/// 11 whatever the space: also where there is none, and where the text would be too long.
+/// 11 whatever the buffer: also where it has no bytes, and where the text would be too long.
 #[test]
 fn unsound_plans() {
     let changes: [(&str, Change); 7] = [
