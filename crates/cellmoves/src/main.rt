@@ -1,5 +1,5 @@
-// `cellmoves`: a plan and events on standard input, answers on standard output. What is printed is `whole_run`'s, and what a person
-// is told of a refused plan, on standard error, is that of `messages`.
+// `cellmoves`: a plan and events on standard input, answers on standard output. What is printed is `moves_run`'s, and what a person
+// is told of a refused plan, on standard error, is that of `moves_messages`.
 use libc::STDERR_FILENO;
 use libc::STDIN_FILENO;
 use libc::STDOUT_FILENO;

@@ -1,5 +1,5 @@
 // `cellplan`: a plan text on standard input, its canonical form on standard output. What is printed is `write_canonical`'s, and what a person is
-// told of a refused text, on standard error, is that of `messages`.
+// told of a refused text, on standard error, is that of `moves_messages`.
 use libc::STDERR_FILENO;
 use libc::STDIN_FILENO;
 use libc::STDOUT_FILENO;
