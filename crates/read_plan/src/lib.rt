@@ -1,5 +1,5 @@
-// The reader of plan texts, and the line that a refusal is about: one pass over the lines. A line's questions are answered from the counts, the capacities, the stages
-// per type and the one entry that it names, and its record writes that entry.
+// The reader of plan texts, and the line that a refusal is about. One pass over the lines: a line's questions are answered from the counts, the
+// capacities, the stages per type and the one entry that it names, and its record writes that entry.
 ghost use mathlib.Core.List.{[]};
 ghost use mathlib.Core.Path.{_≡_};
 ghost use Prim.Native.Nat.{_+_, _-_, _*_, _<_, _≤_};

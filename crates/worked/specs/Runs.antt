@@ -1,7 +1,7 @@
 -- Document 01's starred runs, as rows of one table: what is asked, and the numbers that the paper gives for it. With them the
 -- crossing plan's text, where the part that a refusal shows stands, the whole run, as events and from bytes to bytes, a number used again after its unload, both sides of
 -- the largest number, the pulls of change request S-1, with what the ledger holds before and after one, and the row that 19 names
--- by change request S-2; and by S-3 the crossing plan written and printedAgain, buffers that fit and one a byte short, zeros, a refused text and an unsound plan.
+-- by change request S-2; and by S-3 the crossing plan written and printed again, buffers that fit and one a byte short, zeros, a refused text and an unsound plan.
 use Prim.Native.Nat.{ℕ, zero, suc}
 use mathlib.Core.List.{List, [], _∷_, _++_, map}
 use lib.ListN.{replicate}
