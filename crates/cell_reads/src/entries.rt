@@ -4,10 +4,10 @@ ghost use Prim.Native.Nat.{_+_, _≤_};
 ghost use lib.ListN.{length};
 ghost use Rattle.plan_bytes.specs.Over.{bytesFrom};
 ghost use Rattle.cell_layout.specs.Layout.{valueOf, boundSize, jobIn, jobSize};
+use arithmetic::u8_to_u16;
+use arithmetic::u8_to_u32;
 use bytes::copy;
 use model::Job;
-use widen::u8_to_u16;
-use widen::u8_to_u32;
 
 // A bound has two bytes.
 pub(crate) fn bound_at(bounds: &[u8], at: usize) -> u16
@@ -26,7 +26,7 @@ pub(crate) fn number_at(jobs: &[u8], at: usize) -> u32
     u8_to_u32(jobs[at]) + 256 * (u8_to_u32(jobs[at + 1]) + 256 * high)
 }
 
-pub(crate) fn job_at(jobs: &[u8], at: usize) -> Job
+pub(crate) fn job_from(jobs: &[u8], at: usize) -> Job
     requires { ⌜ at + jobSize ≤ length (now jobs) ⌝ }
     ensures { λ r. ⌜ r ≡ jobIn (bytesFrom at jobSize (now (jobs .entry))) ⌝ }
 {

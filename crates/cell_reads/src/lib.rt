@@ -10,8 +10,9 @@ ghost use Rattle.cell_layout.specs.Layout.{valueOf, boundSize, sizeOf, boundsPa
 use crate::entries::bound_at;
 use crate::entries::bytes_16;
 use crate::entries::bytes_32;
-use crate::entries::job_at;
+use crate::entries::job_from;
 use crate::entries::number_at;
+use arithmetic::u8_to_usize;
 use cell_layout::BOUNDS;
 use cell_layout::CAPACITIES;
 use cell_layout::CELL;
@@ -27,7 +28,6 @@ use events::JobList;
 use model::Job;
 use plan_bytes::Frame;
 use plan_empty::empty_frame;
-use widen::u8_to_usize;
 
 mod entries;
 
@@ -113,7 +113,7 @@ pub fn list_in(cell: &[u8]) -> JobList
     list.count = count_in(cell);
     let mut i = 0;
     while i < 64 {
-        list.jobs[i] = job_at(&cell[JOBS..CELL], 12 * i);
+        list.jobs[i] = job_from(&cell[JOBS..CELL], 12 * i);
         i += 1;
     }
     list

@@ -30,7 +30,7 @@ fn low_byte(n: u32) -> u8
     (n % 256) as u8
 }
 
-fn put_number(n: u32, cell: &mut [u8], at: usize)
+fn lay_number(n: u32, cell: &mut [u8], at: usize)
     requires { ⌜ at + 4 ≤ length (now cell) ⌝ }
     ensures { λ _. ⌜ now (cell .exit) ≡ overlaidAt at (bytesOf 4 n) (now (cell .entry)) ⌝ }
 {
@@ -40,16 +40,16 @@ fn put_number(n: u32, cell: &mut [u8], at: usize)
     cell[at + 3] = low_byte(n / 256 / 256 / 256);
 }
 
-fn put_job(j: Job, cell: &mut [u8], at: usize)
+fn lay_job(j: Job, cell: &mut [u8], at: usize)
     requires { ⌜ at + jobSize ≤ length (now cell) ⌝ }
     ensures { λ _. ⌜ now (cell .exit) ≡ overlaidAt at (jobBytes j) (now (cell .entry)) ⌝ }
 {
-    put_number(j.number, cell, at);
-    put_number(j.kind, cell, at + 4);
-    put_number(j.stage, cell, at + 8);
+    lay_number(j.number, cell, at);
+    lay_number(j.kind, cell, at + 4);
+    lay_number(j.stage, cell, at + 8);
 }
 
-fn put_bound(bound: u16, cell: &mut [u8], at: usize)
+fn lay_bound(bound: u16, cell: &mut [u8], at: usize)
     requires { ⌜ at + boundSize ≤ length (now cell) ⌝ }
     ensures { λ _. ⌜ now (cell .exit) ≡ overlaidAt at (bytesOf boundSize bound) (now (cell .entry)) ⌝ }
 {
@@ -57,19 +57,19 @@ fn put_bound(bound: u16, cell: &mut [u8], at: usize)
     cell[at + 1] = low_byte((bound / 256) as u32);
 }
 
-fn put_bounds(bound: [u16; 32], cell: &mut [u8])
+fn lay_bounds(bound: [u16; 32], cell: &mut [u8])
     requires { ⌜ cellSize ≤ length (now cell) ⌝ }
     ensures { λ _. ⌜ now (cell .exit) ≡ overlaidAt (offsetOf boundsPart) (bytesOfEach (bytesOf boundSize) bound) (now (cell .entry)) ⌝ }
 {
     let mut i = 0;
     while i < 32 {
-        put_bound(bound[i], cell, BOUNDS + 2 * i);
+        lay_bound(bound[i], cell, BOUNDS + 2 * i);
         i += 1;
     }
 }
 
 // All parts of a plan but the last, its stages.
-fn put_frame(frame: Frame, cell: &mut [u8])
+fn lay_frame(frame: Frame, cell: &mut [u8])
     requires { ⌜ cellSize ≤ length (now cell) ⌝ }
     ensures { λ _. ⌜ now (cell .exit) ≡ withParts (take stagesPart (planParts (planRead frame []))) (now (cell .entry)) ⌝ }
 {
@@ -77,7 +77,7 @@ fn put_frame(frame: Frame, cell: &mut [u8])
     put_text(&frame.capacity, cell, CAPACITIES);
     put_text(&frame.rank, cell, RANKS);
     let bound = frame.bound;
-    put_bounds(bound, cell);
+    lay_bounds(bound, cell);
     put_text(&frame.lengths, cell, LENGTHS);
 }
 
@@ -89,7 +89,7 @@ pub fn put_plan(frame: Frame, stages: &[u8], cell: &mut [u8])
     if cell.len() < CELL {
         return;
     }
-    put_frame(frame, cell);
+    lay_frame(frame, cell);
     if stages.len() != ALL_STAGES {
         return;
     }
@@ -106,7 +106,7 @@ pub fn put_list(l: JobList, cell: &mut [u8])
     cell[JOB_COUNT] = (l.count % 256) as u8;
     let mut i = 0;
     while i < 64 {
-        put_job(l.jobs[i], cell, JOBS + 12 * i);
+        lay_job(l.jobs[i], cell, JOBS + 12 * i);
         i += 1;
     }
 }

@@ -6,9 +6,9 @@ ghost use lib.ListN.{length};
 ghost use Rattle.model.specs.Numbers.{at, sumTo};
 ghost use Rattle.plan_bytes.specs.Over.{bytesFrom, stageAt};
 ghost use Rattle.internals.specs.Internals.{stageIndex};
+use arithmetic::u8_to_u32;
+use arithmetic::u8_to_usize;
 use bytes::copy;
-use widen::u8_to_u32;
-use widen::u8_to_usize;
 
 // The index of no stage: it is beyond the last.
 pub const NO_STAGE: usize = 128;

@@ -13,10 +13,10 @@ use crate::ranks::closed;
 use crate::rows::faulty_bound;
 use crate::rows::faulty_row;
 use crate::units::units_of;
+use arithmetic::u8_to_usize;
 use model::Check;
 use plan_bytes::Frame;
 use plan_soundness::is_sound;
-use widen::u8_to_usize;
 
 mod position;
 mod ranks;

@@ -1,7 +1,7 @@
 // Where an entry of the array of stages belongs.
 ghost use Prim.Native.Nat.{_≤_};
 ghost use Rattle.plan_upstream.specs.CheckInternals.{Stands};
-use widen::u8_to_usize;
+use arithmetic::u8_to_usize;
 
 // A stage by its type and its number, each counted from 0.
 pub(crate) struct Position {

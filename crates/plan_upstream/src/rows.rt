@@ -7,10 +7,10 @@ ghost use Rattle.model.specs.Soundness.{Sound};
 ghost use Rattle.model.specs.Upstream.{faultyRow};
 ghost use Rattle.plan_bytes.specs.Over.{planOver};
 ghost use Rattle.plan_upstream.specs.CheckInternals.{StretchRanks};
+use arithmetic::u8_to_u16;
+use arithmetic::u8_to_usize;
 use plan_bytes::Frame;
 use plan_upstream_stage::due_weight;
-use widen::u8_to_u16;
-use widen::u8_to_usize;
 
 // The number of the row at which a search of n rows was left; 0 where it was not.
 fn fault_number(row: usize, n: usize) -> u32

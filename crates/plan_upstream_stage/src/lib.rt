@@ -5,20 +5,15 @@ ghost use Prim.Native.Nat.{min};
 ghost use lib.Dec.{eqb};
 ghost use Rattle.model.specs.Numbers.{at, sumTo};
 ghost use Rattle.plan_upstream_stage.specs.Due.{rankIf, lowestRank, dueBy};
-use widen::u8_to_u16;
-use widen::u8_to_usize;
-
-fn fewer(a: usize, b: usize) -> usize
-    ensures { λ r. ⌜ r ≡ min a b ⌝ }
-{
-    if a < b { a } else { b }
-}
+use arithmetic::at_most;
+use arithmetic::u8_to_u16;
+use arithmetic::u8_to_usize;
 
 // Is one unit demanded in all? Sums of 16 bits go eight at a time.
 pub fn one_unit(demand: &[u8], resources: u8) -> bool
     ensures { λ r. ⌜ r ≡ eqb (sumTo resources (at (now (demand .entry)))) 1 ⌝ }
 {
-    let n = fewer(u8_to_usize(resources), demand.len());
+    let n = at_most(u8_to_usize(resources), demand.len());
     let mut sum: u16 = 0;
     let mut i = 0;
     while i < n {
@@ -45,7 +40,7 @@ fn lower(a: u16, b: u16) -> u16
 pub fn lowest_rank<'a>(demand: &'a [u8], rank: &'a [u8; 32], resources: u8) -> u16
     ensures { λ r. ⌜ r ≡ lowestRank (min resources 32) (now (demand .entry)) (now (rank .entry)) ⌝ }
 {
-    let n = fewer(fewer(u8_to_usize(resources), 32), demand.len());
+    let n = at_most(at_most(u8_to_usize(resources), 32), demand.len());
     let mut lowest = 256;
     let mut i = 0;
     while i < n {

@@ -1,9 +1,9 @@
 // The lines of a text, found in this crate alone: where the line that begins at an offset ends, a part of a text, and the line reader.
 ghost use mathlib.Core.Path.{_≡_};
-ghost use Prim.Native.Nat.{min};
 ghost use Rattle.plan_text.specs.LineReading.{spanFrom};
 ghost use Rattle.plan_text.specs.TextParts.{IsPart};
 ghost use Rattle.read_lines.specs.LineReads.{atStart, Reads};
+use arithmetic::at_most;
 use bytes::scan::find;
 use plan_text::LineSpan;
 
@@ -30,12 +30,6 @@ pub fn line_at(text: &[u8], at: usize) -> LineSpan
         ended,
         over: text.len() <= at,
     }
-}
-
-fn at_most(n: usize, limit: usize) -> usize
-    ensures { λ r. ⌜ r ≡ min n limit ⌝ }
-{
-    if limit < n { limit } else { n }
 }
 
 // A part of the text, from one offset up to another; what lies beyond the text is left out.

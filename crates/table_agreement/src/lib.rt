@@ -10,6 +10,7 @@ ghost use Rattle.events.specs.JobList.{jobsOf};
 ghost use Rattle.plan_bytes.specs.Over.{planOver};
 ghost use Rattle.internals.specs.Internals.{wellFormed, refusedWith, agreed};
 ghost use Rattle.internals.specs.JobNumbers.{jobsLaid, listOver};
+use arithmetic::u8_to_u16;
 use events::Answer;
 use internals::Agreement;
 use internals::Ceilings;
@@ -22,7 +23,6 @@ use plan_stages::length_of;
 use table_jobs::job_at;
 use table_sums::kept_after;
 use table_sums::sums_of;
-use widen::u8_to_u16;
 
 // A flag in place of an early exit: only so does the compiler vectorise.
 fn none_equals(ns: &[u32], n: u32) -> bool

@@ -8,6 +8,9 @@ ghost use Rattle.plan_bytes.specs.Over.{planOver, stageAt};
 ghost use Rattle.internals.specs.Internals.{indexIn, sumsOf, lowestAfter, worstAfter, keptAfter};
 ghost use Rattle.internals.specs.Internals.{Few, Added};
 ghost use Rattle.internals.specs.JobNumbers.{listOver};
+use arithmetic::u8_to_u16;
+use arithmetic::u8_to_u32;
+use arithmetic::u16_to_u32;
 use events::Answer;
 use internals::Ceilings;
 use internals::Sums;
@@ -19,9 +22,6 @@ use plan_stages::length_of;
 use plan_stages::stage_index;
 use plan_stages::weights_at;
 use table_jobs::job_at;
-use widen::u8_to_u16;
-use widen::u8_to_u32;
-use widen::u16_to_u32;
 
 // The amounts with a stage's more: 64 of 255 come to 16,320. A fresh array: amounts changed in place are not vectorised.
 fn added<'a>(amounts: &'a [u16; 32], more: &'a [u8; 32]) -> [u16; 32]

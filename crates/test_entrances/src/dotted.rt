@@ -1,7 +1,7 @@
 // A plan written into the last bytes of a buffer of dots.
 use crate::plan::Plan;
+use arithmetic::at_most;
 use canonical_text::Writing;
-use write_lines::at_most;
 use write_plan::write_plan;
 
 pub(crate) struct Dotted {

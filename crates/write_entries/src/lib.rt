@@ -6,10 +6,10 @@ ghost use lib.ListN.{length};
 ghost use Rattle.moves_text.specs.Buffer.{overlaidAt};
 ghost use Rattle.canonical_text.specs.CanonicalText.{valued, entryRecords, boundRecords, textOf};
 ghost use Rattle.canonical_text.specs.WriterInternals.{entryOf};
+use arithmetic::at_most;
 use plan_entry::bound_of;
 use plan_entry::entry_of;
 use plan_text::Record;
-use write_lines::at_most;
 use write_record::put_record;
 
 // The record of an entry, like another.

@@ -2,20 +2,14 @@
 // out, and the length is that of the whole: so a buffer of no bytes measures.
 ghost use mathlib.Core.Path.{_≡_};
 ghost use mathlib.Core.List.{_∷_, [], _++_};
-ghost use Prim.Native.Nat.{_+_, _≤_, min};
+ghost use Prim.Native.Nat.{_+_, _≤_};
 ghost use lib.ListN.{length};
 ghost use Rattle.moves_text.specs.Decimals.{decimal};
 ghost use Rattle.moves_text.specs.OutputLines.{planLine, checkLine, eventLine};
 ghost use Rattle.moves_text.specs.Buffer.{overlaid, overlaidAt};
+use arithmetic::at_most;
 use bytes::copy;
 use io::decimal;
-
-// The lower of the two: where in a buffer an offset is that may be beyond it.
-pub fn at_most(n: usize, limit: usize) -> usize
-    ensures { λ r. ⌜ r ≡ min n limit ⌝ }
-{
-    if limit < n { limit } else { n }
-}
 
 // From the start of the buffer on.
 fn lay(text: &[u8], buffer: &mut [u8]) -> usize
@@ -34,7 +28,7 @@ pub fn put_text(text: &[u8], buffer: &mut [u8], at: usize) -> usize
 }
 
 // In digits, without leading zeros.
-pub fn put_number(n: u32, buffer: &mut [u8], at: usize) -> usize
+pub fn put_decimal(n: u32, buffer: &mut [u8], at: usize) -> usize
     ensures { λ r. ⌜ (r ≡ length (decimal n)) × (now (buffer .exit) ≡ overlaidAt at (decimal n) (now (buffer .entry))) ⌝ }
 {
     let mut digits = [0u8; 20];
@@ -48,7 +42,7 @@ fn put_field(n: u32, after: u8, buffer: &mut [u8], at: usize) -> usize
     ensures { λ r. ⌜ (r ≡ at + length (decimal n ++ after ∷ [])) × (now (buffer .exit) ≡ overlaidAt at (decimal n ++ after ∷ []) (now (buffer .entry))) ⌝ }
     ensures { λ r. ⌜ r ≤ at + 11 ⌝ }
 {
-    let to = at + put_number(n, buffer, at);
+    let to = at + put_decimal(n, buffer, at);
     to + put_text(&[after], buffer, to)
 }
 

@@ -8,12 +8,12 @@ ghost use Rattle.moves_text.specs.Buffer.{overlaidAt};
 ghost use Rattle.plan_bytes.specs.Over.{planOver};
 ghost use Rattle.canonical_text.specs.CanonicalText.{demandRecords, weightRecords, textOf};
 ghost use Rattle.write_stages.specs.StageRecords.{stageRead, stageRecords, recordsFrom, planStages};
+use arithmetic::at_most;
 use plan_bytes::Frame;
 use plan_stages::length_of;
 use plan_text::Record;
 use write_entries::put_entries;
 use write_entries::put_valued;
-use write_lines::at_most;
 
 // What the stage at an index, counted from 0, weighs in a row; 0 where there is no such stage, and beyond the last row.
 fn weight_in(stages: &[u8], index: usize, row: u32) -> u32

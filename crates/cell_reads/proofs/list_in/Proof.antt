@@ -37,20 +37,20 @@ unfolding listOf
 loop-holds c =
     (search needs, ap (λ (l : JobList). length (l .jobs)) (c .before .before .no-jobs .ensures), refl, c .count-in .ensures)
 
-sub-job-at : tie.Need-sub-job-at Inv-loop μ-loop
-sub-job-at c = search needs
+sub-job-from : tie.Need-sub-job-from Inv-loop μ-loop
+sub-job-from c = search needs
 
-part-job-at-start : tie.Need-part-job-at-start Inv-loop μ-loop
-part-job-at-start c = search needs
+part-job-from-start : tie.Need-part-job-from-start Inv-loop μ-loop
+part-job-from-start c = search needs
 
-part-job-at-end : tie.Need-part-job-at-end Inv-loop μ-loop
-part-job-at-end c = search needs
+part-job-from-end : tie.Need-part-job-from-end Inv-loop μ-loop
+part-job-from-end c = search needs
 
-mul-job-at : tie.Need-mul-job-at Inv-loop μ-loop
-mul-job-at c = search needs
+mul-job-from : tie.Need-mul-job-from Inv-loop μ-loop
+mul-job-from c = search needs
 
-job-at-requires : tie.Need-job-at-requires Inv-loop μ-loop
-job-at-requires c κs = search needs
+job-from-requires : tie.Need-job-from-requires Inv-loop μ-loop
+job-from-requires c κs = search needs
 
 mul-t14 : tie.Need-mul-t14 Inv-loop μ-loop
 mul-t14 c = search needs
@@ -68,9 +68,9 @@ loop-again : tie.Need-loop-again Inv-loop μ-loop
 loop-again c =
     let l = c .before .before .before .loop in
     let bytes = now (c .before .before .before .before .before .before .before .before .args .cell) in
-    let written = take-suc-set (l .list .jobs) (l .i) (c .job-at .result) (omega arith) in
+    let written = take-suc-set (l .list .jobs) (l .i) (c .job-from .result) (omega arith) in
     let more = entries-more jobIn jobSize (l .i) (partIn jobsPart bytes) in
-    (search needs, simp length-set (l .inv .1), rw (add-one, written, l .inv .2, c .job-at .ensures) (sym more), l .inv .3)
+    (search needs, simp length-set (l .inv .1), rw (add-one, written, l .inv .2, c .job-from .ensures) (sym more), l .inv .3)
 
 returns-2 : tie.Need-returns-2 Inv-loop μ-loop
 unfolding listLaid
@@ -92,11 +92,11 @@ list-in-spec =
     returns
     count-in-requires
     loop-holds
-    sub-job-at
-    part-job-at-start
-    part-job-at-end
-    mul-job-at
-    job-at-requires
+    sub-job-from
+    part-job-from-start
+    part-job-from-end
+    mul-job-from
+    job-from-requires
     mul-t14
     element-set-from-list
     add-i

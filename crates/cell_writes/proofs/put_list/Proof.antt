@@ -50,20 +50,20 @@ loop-holds c =
     let bytes = now (start .args .cell) in
     (search needs, list-slots l _ (start .good .0), omega (arith, length-set bytes (offsetOf jobCountPart) (l .count % 256)), none-written jobBytes jobSize (offsetOf jobsPart) (l .jobs) (counted l bytes))
 
-mul-put-job : tie.Need-mul-put-job Inv-loop μ-loop
-mul-put-job c = search needs
+mul-lay-job : tie.Need-mul-lay-job Inv-loop μ-loop
+mul-lay-job c = search needs
 
-element-copy-out-put-job : tie.Need-element-copy-out-put-job Inv-loop μ-loop
-element-copy-out-put-job c = search needs
+element-copy-out-lay-job : tie.Need-element-copy-out-lay-job Inv-loop μ-loop
+element-copy-out-lay-job c = search needs
 
-mul-put-job-2 : tie.Need-mul-put-job-2 Inv-loop μ-loop
-mul-put-job-2 c = search needs
+mul-lay-job-2 : tie.Need-mul-lay-job-2 Inv-loop μ-loop
+mul-lay-job-2 c = search needs
 
-add-put-job : tie.Need-add-put-job Inv-loop μ-loop
-add-put-job c = search needs
+add-lay-job : tie.Need-add-lay-job Inv-loop μ-loop
+add-lay-job c = search needs
 
-put-job-requires : tie.Need-put-job-requires Inv-loop μ-loop
-put-job-requires c κs = search needs
+lay-job-requires : tie.Need-lay-job-requires Inv-loop μ-loop
+lay-job-requires c κs = search needs
 
 add-i : tie.Need-add-i Inv-loop μ-loop
 add-i c = search needs
@@ -77,7 +77,7 @@ loop-again c =
     let a = t .before .before .before .args in
     let l = a .t1 in
     let first = counted l (now (a .cell)) in
-    let next = more-written jobBytes jobSize (offsetOf jobsPart) (l .jobs) first (t .loop .i) noJob (omega arith) (t .loop .inv .3) refl refl (c .before .before .put-job .ensures) in
+    let next = more-written jobBytes jobSize (offsetOf jobsPart) (l .jobs) first (t .loop .i) noJob (omega arith) (t .loop .inv .3) refl refl (c .before .before .lay-job .ensures) in
     (search needs, t .loop .inv .1, omega (arith, laid-length l first _ next, laid-length l first _ (t .loop .inv .3)), rw add-one next)
 
 same-length : tie.Need-same-length Inv-loop μ-loop
@@ -108,11 +108,11 @@ put-list-spec =
     cast-cell
     slice-write-cell
     loop-holds
-    mul-put-job
-    element-copy-out-put-job
-    mul-put-job-2
-    add-put-job
-    put-job-requires
+    mul-lay-job
+    element-copy-out-lay-job
+    mul-lay-job-2
+    add-lay-job
+    lay-job-requires
     add-i
     loop-less
     loop-again

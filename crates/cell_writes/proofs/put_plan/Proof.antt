@@ -14,8 +14,8 @@ returns : tie.Need-returns
 unfolding withPlan
 returns c = rw (no-cell (now (c .before .before .before .args .cell)) (omega arith)) refl
 
-put-frame-requires : tie.Need-put-frame-requires
-put-frame-requires c κs = search needs
+lay-frame-requires : tie.Need-lay-frame-requires
+lay-frame-requires c κs = search needs
 
 same-length : tie.Need-same-length
 same-length c = search needs
@@ -26,7 +26,7 @@ returns-2 c =
     let put = c .before .before .before in
     let a = put .before .before .before .before .before .args in
     let bytes = now (a .cell) in
-    rw (is-cell bytes (omega arith)) (put .put-frame .ensures ∙ no-stages-put (a .frame) (now (a .stages)) (c .if2 .taken) _)
+    rw (is-cell bytes (omega arith)) (put .lay-frame .ensures ∙ no-stages-put (a .frame) (now (a .stages)) (c .if2 .taken) _)
 
 put-text-requires : tie.Need-put-text-requires
 put-text-requires c κs = search needs
@@ -42,14 +42,14 @@ returns-3 c =
     let put = last .before .before .before .before .before in
     let a = put .before .before .before .before .before .args in
     let bytes = now (a .cell) in
-    rw (is-cell bytes (omega arith)) (stages-put (a .frame) (now (a .stages)) whole (last .put-text .ensures .1) (put .put-frame .ensures))
+    rw (is-cell bytes (omega arith)) (stages-put (a .frame) (now (a .stages)) whole (last .put-text .ensures .1) (put .lay-frame .ensures))
 
 pub put-plan-spec : {M : Type 1} → statement M
 put-plan-spec =
     tie.close
     (tie.spec
     returns
-    put-frame-requires
+    lay-frame-requires
     same-length
     returns-2
     put-text-requires

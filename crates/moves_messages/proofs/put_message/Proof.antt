@@ -32,15 +32,15 @@ shown-little-longer [] = omega arith
 shown-little-longer (b ∷ bs) = omega (arith, length-append (map visible bs) (quoted "\n"), length-map bs visible)
 
 -- where the number is put
-module _ (c : tie.After-put-number) where
+module _ (c : tie.After-put-decimal) where
   abbrev first : tie.After-put-text
   first = c .before .before .before .before
 
   abbrev start : tie.Start
   start = first .before .before .before .before .before
 
-  number-short : c .put-number .result ≤ 10
-  number-short = omega (arith, c .put-number .ensures .0, decimal-short 10 (start .args .line) (omega arith) (omega (arith, start .good)))
+  number-short : c .put-decimal .result ≤ 10
+  number-short = omega (arith, c .put-decimal .ensures .0, decimal-short 10 (start .args .line) (omega arith) (omega (arith, start .good)))
 
   part-fits : length (now (start .args .part)) ≤ 9223372036854775807
   part-fits = omega arith
@@ -50,10 +50,10 @@ module _ (c : tie.After-put-meaning) where
   abbrev colon : tie.After-put-text2
   colon = c .before .before .before .before
 
-  abbrev number : tie.After-put-number
+  abbrev number : tie.After-put-decimal
   number = colon .before .before .before .before .before
 
-  before-short : first number .put-text .result + number .put-number .result + colon .put-text2 .result + c .put-meaning .result ≤ 120
+  before-short : first number .put-text .result + number .put-decimal .result + colon .put-text2 .result + c .put-meaning .result ≤ 120
   before-short =
       omega (
         arith,
@@ -70,8 +70,8 @@ slice-aggregate-put-text c = search needs
 put-text-requires : tie.Need-put-text-requires
 put-text-requires c κs = search needs
 
-put-number-requires : tie.Need-put-number-requires
-put-number-requires c κs = search needs
+put-decimal-requires : tie.Need-put-decimal-requires
+put-decimal-requires c κs = search needs
 
 add-n : tie.Need-add-n
 add-n c = omega (arith, number-short (c .before .before))
@@ -111,7 +111,7 @@ returns c =
     let told = number said in
     let a = start told .args in
     let buffer = now (a .buffer) in
-    let u = put-then 0 (quoted "line ") (decimal (a .line)) buffer (sym (zero-add _)) (first told .put-text .ensures) (told .put-number .ensures) in
+    let u = put-then 0 (quoted "line ") (decimal (a .line)) buffer (sym (zero-add _)) (first told .put-text .ensures) (told .put-decimal .ensures) in
     let v = put-then 0 _ (quoted ": ") buffer (sym (zero-add _)) u (colon said .put-text2 .ensures) in
     let w = put-then 0 _ (meaning (a .answer)) buffer (sym (zero-add _)) v (said .put-meaning .ensures) in
     put-as 0 buffer (simp append-assoc) (put-then 0 _ (shownAfter (now (a .part))) buffer (sym (zero-add _)) w (shown .put-shown .ensures))
@@ -122,7 +122,7 @@ put-message-spec =
     (tie.spec
     slice-aggregate-put-text
     put-text-requires
-    put-number-requires
+    put-decimal-requires
     add-n
     slice-aggregate-put-text-2
     put-text-requires-2

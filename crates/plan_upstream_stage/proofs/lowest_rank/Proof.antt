@@ -19,11 +19,11 @@ abbrev μ-loop : tie.MeasureT-loop
 u8-to-usize-requires : tie.Need-u8-to-usize-requires Inv-loop μ-loop
 u8-to-usize-requires c κs = tt
 
-fewer-requires : tie.Need-fewer-requires Inv-loop μ-loop
-fewer-requires c κs = tt
+at-most-requires : tie.Need-at-most-requires Inv-loop μ-loop
+at-most-requires c κs = tt
 
-fewer-requires-2 : tie.Need-fewer-requires-2 Inv-loop μ-loop
-fewer-requires-2 c κs = tt
+at-most-requires-2 : tie.Need-at-most-requires-2 Inv-loop μ-loop
+at-most-requires-2 c κs = tt
 
 loop-holds : tie.Need-loop-holds Inv-loop μ-loop
 loop-holds c = search needs
@@ -65,8 +65,8 @@ lowest-rank-spec =
     Inv-loop
     μ-loop
     u8-to-usize-requires
-    fewer-requires
-    fewer-requires-2
+    at-most-requires
+    at-most-requires-2
     loop-holds
     shared-slice-read-rank-if
     element-copy-out-rank-if

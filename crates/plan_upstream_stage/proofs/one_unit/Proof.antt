@@ -19,8 +19,8 @@ abbrev μ-loop : tie.MeasureT-loop
 u8-to-usize-requires : tie.Need-u8-to-usize-requires Inv-loop μ-loop
 u8-to-usize-requires c κs = tt
 
-fewer-requires : tie.Need-fewer-requires Inv-loop μ-loop
-fewer-requires c κs = tt
+at-most-requires : tie.Need-at-most-requires Inv-loop μ-loop
+at-most-requires c κs = tt
 
 loop-holds : tie.Need-loop-holds Inv-loop μ-loop
 loop-holds c = search needs
@@ -59,7 +59,7 @@ one-unit-spec =
     Inv-loop
     μ-loop
     u8-to-usize-requires
-    fewer-requires
+    at-most-requires
     loop-holds
     shared-slice-read-u8-to-u16
     u8-to-u16-requires

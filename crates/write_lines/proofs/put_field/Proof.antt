@@ -12,15 +12,15 @@ use Rattle.write_lines.proofs.put_field.Statement.{statement}
 use Rattle.write_lines.proofs.put_field.Tie as tie
 
 -- where the digits are put
-module _ (c : tie.After-put-number) where
+module _ (c : tie.After-put-decimal) where
   abbrev n : ℕ
   n = c .before .before .before .args .n
 
-  few : c .put-number .result ≤ 10
-  few = omega (arith, c .put-number .ensures .0, decimal-short 10 n (omega arith) (omega (arith, c .before .before .before .good)))
+  few : c .put-decimal .result ≤ 10
+  few = omega (arith, c .put-decimal .ensures .0, decimal-short 10 n (omega arith) (omega (arith, c .before .before .before .good)))
 
-put-number-requires : tie.Need-put-number-requires
-put-number-requires c κs = search needs
+put-decimal-requires : tie.Need-put-decimal-requires
+put-decimal-requires c κs = search needs
 
 add-to : tie.Need-add-to
 add-to c = omega (arith, few (c .before .before))
@@ -42,18 +42,18 @@ returns c =
     let put = c .before .before in
     let numbered = put .before .before .before .before .before in
     let a = numbered .before .before .before .args in
-    let number = numbered .put-number .ensures in
+    let number = numbered .put-decimal .ensures in
     let byte = put .put-text .ensures in
     let w =
     laid-then (a .at) (decimal (a .n)) (a .after ∷ []) (now (a .buffer)) (ap (λ k. a .at + k) (number .0), number .1)
-    (ap (λ k. a .at + numbered .put-number .result + k) (byte .0), byte .1) in
+    (ap (λ k. a .at + numbered .put-decimal .result + k) (byte .0), byte .1) in
     (w, omega (arith, few numbered, byte .0))
 
 pub put-field-spec : {M : Type 1} → statement M
 put-field-spec =
     tie.close
     (tie.spec
-    put-number-requires
+    put-decimal-requires
     add-to
     slice-aggregate-put-text
     put-text-requires

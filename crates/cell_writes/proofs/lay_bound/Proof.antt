@@ -4,8 +4,8 @@ use denote.Ref.{now}
 use lib.ListN.{length-set}
 use Rattle.cell_layout.proofs.EntryBytes.{two-stored}
 use borrow.Author.Needs.{needs}
-use Rattle.cell_writes.proofs.put_bound.Statement.{statement}
-use Rattle.cell_writes.proofs.put_bound.Tie as tie
+use Rattle.cell_writes.proofs.lay_bound.Statement.{statement}
+use Rattle.cell_writes.proofs.lay_bound.Tie as tie
 
 low-byte-requires : tie.Need-low-byte-requires
 low-byte-requires c κs = search needs
@@ -33,8 +33,8 @@ returns c =
     let a = c .before .before .before .args in
     rw (c .before .low-byte .ensures, c .low-byte2 .ensures) (two-stored (a .at) _ _ (now (a .cell)) (omega arith))
 
-pub put-bound-spec : {M : Type 1} → statement M
-put-bound-spec =
+pub lay-bound-spec : {M : Type 1} → statement M
+lay-bound-spec =
     tie.close
     (tie.spec
     low-byte-requires

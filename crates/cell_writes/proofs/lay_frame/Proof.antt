@@ -8,8 +8,8 @@ use Rattle.cell_layout.specs.Layout.{bytesOf, bytesOfEach, capacitiesPart, rank
 use Rattle.cell_layout.proofs.EntryBytes.{joined-length}
 use Rattle.cell_layout.proofs.Parts.{put-into, counts-put}
 use borrow.Author.Needs.{needs}
-use Rattle.cell_writes.proofs.put_frame.Statement.{statement}
-use Rattle.cell_writes.proofs.put_frame.Tie as tie
+use Rattle.cell_writes.proofs.lay_frame.Statement.{statement}
+use Rattle.cell_writes.proofs.lay_frame.Tie as tie
 
 slice-aggregate-put-text : tie.Need-slice-aggregate-put-text
 slice-aggregate-put-text c = search needs
@@ -23,8 +23,8 @@ put-text-requires-2 c κs = search needs
 put-text-requires-3 : tie.Need-put-text-requires-3
 put-text-requires-3 c κs = search needs
 
-put-bounds-requires : tie.Need-put-bounds-requires
-put-bounds-requires c κs = search needs
+lay-bounds-requires : tie.Need-lay-bounds-requires
+lay-bounds-requires c κs = search needs
 
 put-text-requires-4 : tie.Need-put-text-requires-4
 put-text-requires-4 c κs = search needs
@@ -46,20 +46,20 @@ returns c =
     let bound-bytes = bytesOfEach (bytesOf 2) (f .bound) in
     let bound-size = joined-length (bytesOf 2) 2 (λ b. refl) (f .bound) ∙ ap (λ n. 2 * n) (sized .bound) in
     put-into lengthsPart (f .lengths) (sized .lengths) (lengths .put-text4 .ensures .1)
-    (put-into boundsPart bound-bytes bound-size (bounds .put-bounds .ensures)
+    (put-into boundsPart bound-bytes bound-size (bounds .lay-bounds .ensures)
     (put-into ranksPart (f .rank) (sized .rank) (rank .put-text3 .ensures .1)
     (put-into capacitiesPart (f .capacity) (sized .capacity) (capacity .put-text2 .ensures .1)
     (counts .put-text .ensures .1 ∙ counts-put (f .resources) (f .types) (f .rows) (now (start .args .cell)) (start .pre)))))
 
-pub put-frame-spec : {M : Type 1} → statement M
-put-frame-spec =
+pub lay-frame-spec : {M : Type 1} → statement M
+lay-frame-spec =
     tie.close
     (tie.spec
     slice-aggregate-put-text
     put-text-requires
     put-text-requires-2
     put-text-requires-3
-    put-bounds-requires
+    lay-bounds-requires
     put-text-requires-4
     same-length
     returns)

@@ -4,8 +4,8 @@ use denote.Ref.{now}
 use lib.ListN.{length-set}
 use Rattle.cell_layout.proofs.EntryBytes.{four-stored}
 use borrow.Author.Needs.{needs}
-use Rattle.cell_writes.proofs.put_number.Statement.{statement}
-use Rattle.cell_writes.proofs.put_number.Tie as tie
+use Rattle.cell_writes.proofs.lay_number.Statement.{statement}
+use Rattle.cell_writes.proofs.lay_number.Tie as tie
 
 low-byte-requires : tie.Need-low-byte-requires
 low-byte-requires c κs = search needs
@@ -51,8 +51,8 @@ returns c =
     let a = b1 .before .before .args in
     rw (b1 .low-byte .ensures, b2 .low-byte2 .ensures, b3 .low-byte3 .ensures, c .low-byte4 .ensures) (four-stored (a .at) _ _ _ _ (now (a .cell)) (omega arith))
 
-pub put-number-spec : {M : Type 1} → statement M
-put-number-spec =
+pub lay-number-spec : {M : Type 1} → statement M
+lay-number-spec =
     tie.close
     (tie.spec
     low-byte-requires

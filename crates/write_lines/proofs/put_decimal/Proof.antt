@@ -4,8 +4,8 @@ use lib.ListN.{take}
 use borrow.Author.Needs.{needs}
 use Rattle.moves_text.specs.Decimals.{decimal}
 use Rattle.moves_text.proofs.Decimals.{fewest-digits}
-use Rattle.write_lines.proofs.put_number.Statement.{statement}
-use Rattle.write_lines.proofs.put_number.Tie as tie
+use Rattle.write_lines.proofs.put_decimal.Statement.{statement}
+use Rattle.write_lines.proofs.put_decimal.Tie as tie
 
 decimal-requires : tie.Need-decimal-requires
 decimal-requires c κs = search needs
@@ -31,8 +31,8 @@ returns c =
     let text : take k (told .last .1 .0) ≡ decimal n = told .ensures .1 .1 ∙ fewest-digits n k (told .ensures .1 .0) in
     rw text at (put .put-text .ensures)
 
-pub put-number-spec : {M : Type 1} → statement M
-put-number-spec =
+pub put-decimal-spec : {M : Type 1} → statement M
+put-decimal-spec =
     tie.close
     (tie.spec
     decimal-requires

@@ -5,8 +5,8 @@ use denote.Ref.{now}
 use Rattle.cell_layout.specs.Layout.{valueOf}
 use Rattle.cell_layout.proofs.EntryBytes.{part-first, part-of-part}
 use borrow.Author.Needs.{needs}
-use Rattle.cell_reads.proofs.entries.job_at.Statement.{statement}
-use Rattle.cell_reads.proofs.entries.job_at.Tie as tie
+use Rattle.cell_reads.proofs.entries.job_from.Statement.{statement}
+use Rattle.cell_reads.proofs.entries.job_from.Tie as tie
 
 number-at-requires : tie.Need-number-at-requires
 number-at-requires c κs = search needs
@@ -31,8 +31,8 @@ returns c =
     let stage = c .number-at3 .ensures ∙ ap valueOf (sym (part-of-part 8 4 (a .at) 12 (now (a .jobs)) (omega arith))) in
     λ i. record { number = number i; kind = kind i; stage = stage i }
 
-pub job-at-spec : {M : Type 1} → statement M
-job-at-spec =
+pub job-from-spec : {M : Type 1} → statement M
+job-from-spec =
     tie.close
     (tie.spec
     number-at-requires
