@@ -14,9 +14,9 @@ fn main() {
     let archive = folder.join("librilthoss.a");
     println!("cargo::rerun-if-changed={}", archive.display());
     if !archive.is_file() {
-        let place = archive.display();
+        let path = archive.display();
         println!(
-            "cargo::error=there is no archive {place}: run `host/library`, or name its folder in \
+            "cargo::error=there is no archive {path}: run `host/library`, or name its folder in \
              RILTHOSS_LIBRARY"
         );
         return;

@@ -270,7 +270,7 @@ module _ (p : Plan) (sound : Sound p) where
     one-more : draftOf (rs ++ r ∷ []) ≡ draftAfter d r
     one-more = draft-more emptyDraft rs (r ∷ [])
 
-    pub record Next : Type 0 where
+    pub record TakenNext : Type 0 where
       pub three : Follows (lastSection rs) (r .section)
       pub five : InRanges rs r
       pub six : FirstWithKey rs r
@@ -278,7 +278,7 @@ module _ (p : Plan) (sound : Sound p) where
       pub after : Kept (rs ++ r ∷ []) (draftOf (rs ++ r ∷ []))
 
     -- so it is taken
-    pub next : Next
+    pub next : TakenNext
     next =
         record {
           three = follows;

@@ -136,14 +136,14 @@ behind at done new bytes {offset} e w put = laid-then at done new bytes {end = o
 
 -- the first i entries lie in the bytes from an offset on
 module _ {A : Type 0} (write : A → List ℕ) (size from : ℕ) (xs : List A) (bytes : List ℕ) where
-  abbrev pub Written : ℕ → List ℕ → Type 0
-  Written i now = (length (bytesOfEach write (take i xs)) ≡ size * i) × (now ≡ overlaidAt from (bytesOfEach write (take i xs)) bytes)
+  abbrev pub EntriesLaid : ℕ → List ℕ → Type 0
+  EntriesLaid i now = (length (bytesOfEach write (take i xs)) ≡ size * i) × (now ≡ overlaidAt from (bytesOfEach write (take i xs)) bytes)
 
-  pub none-written : Written 0 bytes
+  pub none-written : EntriesLaid 0 bytes
   none-written = (sym (mul-zero size), none-laid from bytes .1)
 
-  pub more-written : (i : ℕ) (d : A) {at : ℕ} {now next : List ℕ} → i < length xs → Written i now → length (write (getD xs i d)) ≡ size
-      → at ≡ from + size * i → next ≡ overlaidAt at (write (getD xs i d)) now → Written (suc i) next
+  pub more-written : (i : ℕ) (d : A) {at : ℕ} {now next : List ℕ} → i < length xs → EntriesLaid i now → length (write (getD xs i d)) ≡ size
+      → at ≡ from + size * i → next ≡ overlaidAt at (write (getD xs i d)) now → EntriesLaid (suc i) next
   more-written i d {at} {now} there w long e put =
       let new = write (getD xs i d) in
       let more = joined-more write xs i d there in
@@ -152,8 +152,8 @@ module _ {A : Type 0} (write : A → List ℕ) (size from : ℕ) (xs : List A) (
         behind from (bytesOfEach write (take i xs)) new bytes offset (w .1) put ∙ ap (λ bs. overlaidAt from bs bytes) (sym more),
       )
 
-  pub all-written : (i : ℕ) {now : List ℕ} → length xs ≤ i → Written i now → now ≡ overlaidAt from (bytesOfEach write xs) bytes
+  pub all-written : (i : ℕ) {now : List ℕ} → length xs ≤ i → EntriesLaid i now → now ≡ overlaidAt from (bytesOfEach write xs) bytes
   all-written i h w = w .1 ∙ ap (λ ys. overlaidAt from (bytesOfEach write ys) bytes) (take-all i xs h)
 
-  pub written-length : (i : ℕ) {now : List ℕ} → Written i now → length now ≡ length bytes
+  pub written-length : (i : ℕ) {now : List ℕ} → EntriesLaid i now → length now ≡ length bytes
   written-length i w = ap length (w .1) ∙ overlaid-at-length from (bytesOfEach write (take i xs)) bytes

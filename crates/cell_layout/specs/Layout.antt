@@ -33,15 +33,23 @@ bytesOfEach write (x ∷ xs) = write x ++ bytesOfEach write xs
 abbrev pub boundSize : ℕ
 boundSize = 2
 
--- a job has 12 bytes: its number, its type and its stage
+-- a job is three numbers of 4 bytes each: its number, its type and its stage
+abbrev pub numberSize : ℕ
+numberSize = 4
+
 abbrev pub jobSize : ℕ
-jobSize = 12
+jobSize = 3 * numberSize
 
 abbrev pub jobIn : List ℕ → Job
-jobIn bytes = record { number = valueOf (take 4 bytes); kind = valueOf (bytesFrom 4 4 bytes); stage = valueOf (bytesFrom 8 4 bytes) }
+jobIn bytes =
+    record {
+      number = valueOf (take numberSize bytes);
+      kind = valueOf (bytesFrom numberSize numberSize bytes);
+      stage = valueOf (bytesFrom (2 * numberSize) numberSize bytes);
+    }
 
 abbrev pub jobBytes : Job → List ℕ
-jobBytes j = bytesOf 4 (j .number) ++ bytesOf 4 (j .kind) ++ bytesOf 4 (j .stage)
+jobBytes j = bytesOf numberSize (j .number) ++ bytesOf numberSize (j .kind) ++ bytesOf numberSize (j .stage)
 
 -- the parts of a cell in their order, by how many bytes each has
 abbrev pub sizes : List ℕ

@@ -39,13 +39,13 @@ advance-units p a here next r =
     omega (arith, ap (unitsHeld p r) (a .here .whole), moved)
 
 module _ (p : Plan) (sound : Sound p) (l : Ledger) (agreeing : Agreeing p (l .jobs)) (balanced : Balanced p l) where
-  -- what is written of an event whose questions are met
-  record Written (e : Event) (new : Ledger) : Type 0 where
+  -- what is posted of an event whose questions are met
+  record Posted (e : Event) (new : Ledger) : Type 0 where
     jobs : new .jobs ≡ jobsAfter p (l .jobs) e
     balance : Balanced p new
 
   -- an event that strikes an active job, whatever its stage
-  job-struck : (e : Event) (n : ℕ) → Active n (l .jobs) → removed n (l .jobs) ≡ jobsAfter p (l .jobs) e → Written e (struck p l n)
+  job-struck : (e : Event) (n : ℕ) → Active n (l .jobs) → removed n (l .jobs) ≡ jobsAfter p (l .jobs) e → Posted e (struck p l n)
   job-struck e n a leads = rw (passes (decides-active n (l .jobs)) a) (record { jobs = leads; balance = balance })
     where
       found : FoundJob p n (l .jobs) a
@@ -57,7 +57,7 @@ module _ (p : Plan) (sound : Sound p) (l : Ledger) (agreeing : Agreeing p (l .jo
           let left = over-stages-removed p (demandOf p r) (a .here .before) (a .here .after) (a .here .item) here in
           rw (found .removal, found .job) (omega (arith, balanced r, ap (unitsHeld p r) (a .here .whole), left))
 
-  event-written : (e : Event) → AllHold (ownConditions p (l .jobs) e) → Written e (posted p l e)
+  event-written : (e : Event) → AllHold (ownConditions p (l .jobs) e) → Posted e (posted p l e)
   event-written (Load n t) h =
       let stage = sound .lengths t (h .1 .1 .0) in
       record {

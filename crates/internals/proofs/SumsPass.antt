@@ -20,7 +20,7 @@ use Rattle.model.proofs.Lists.{replicated}
 use Rattle.model.proofs.Sums.{over-jobs-append}
 use Rattle.events.specs.JobList.{jobsOf}
 use Rattle.events.specs.declared.JobList.{JobList}
-use Rattle.internals.specs.Internals.{tabulate, Few, Added, sumsOf, noSums}
+use Rattle.internals.specs.Internals.{tabulate, Few, Grown, sumsOf, noSums}
 use Rattle.internals.specs.declared.Sums.{Sums}
 use Rattle.internals.proofs.FixedWidth.{tabulated}
 
@@ -57,7 +57,7 @@ module _ (f : ℕ → ℕ → ℕ → ℕ) where
     abbrev Own : List ℕ → Type 0
     Own more = (i : ℕ) → f i (j .kind) (j .stage) ≡ at more i
 
-    tallied-more : (more after : List ℕ) → Own more → Added amounts more after → Tallied f (js ++ j ∷ []) (n + 1) after
+    tallied-more : (more after : List ℕ) → Own more → Grown amounts more after → Tallied f (js ++ j ∷ []) (n + 1) after
     tallied-more more after own a =
         record {
           few = record { lanes = a .lanes; low = λ i h. omega (arith, a .low i h, t .few .low i h) };
@@ -106,7 +106,7 @@ module _ (p : Plan) (t : JobList) (whole : length (t .jobs) ≡ maxJobs) where
       weighs : (w : ℕ) → weightOf p w (j .kind) (j .stage) ≡ at (here .weight) w
       weighs = own-weight p (j .kind) (j .stage) here at-stage
 
-      pub passed-more : Added (s .units) (here .demand) (after .units) → Added (s .rows) (here .weight) (after .rows) → Passed p t (i + 1) after
+      pub passed-more : Grown (s .units) (here .demand) (after .units) → Grown (s .rows) (here .weight) (after .rows) → Passed p t (i + 1) after
       passed-more units rows =
           one-behind after
           (record {

@@ -49,7 +49,7 @@ pub record Few (most : ℕ) (amounts : List ℕ) : Type 0 where
   pub low : (i : ℕ) → InRange i 32 → at amounts i ≤ most
 
 -- each of 32 amounts has grown by its own, which is at most 255
-pub record Added (amounts more after : List ℕ) : Type 0 where
+pub record Grown (amounts more after : List ℕ) : Type 0 where
   pub lanes : length after ≡ 32
   pub sum : (i : ℕ) → InRange i 32 → at after i ≡ at amounts i + at more i
   pub low : (i : ℕ) → InRange i 32 → at after i ≤ at amounts i + 255

@@ -30,6 +30,11 @@ module _ {P : Type 0} where
   fails (holding h) k = absurd (k h)
   fails (failing h) k = refl
 
+  -- two tests of one condition are the same
+  pub same-test : {a b : Bool} → Decides P a → Decides P b → a ≡ b
+  same-test (holding h) d = sym (passes d h)
+  same-test (failing h) d = sym (fails d h)
+
   pub decides-not : {b : Bool} → Decides P b → Decides (¬ P) (not b)
   decides-not (holding h) = failing (λ k. k h)
   decides-not (failing h) = holding h

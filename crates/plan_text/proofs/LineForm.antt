@@ -11,7 +11,7 @@ use lib.Dec.{eqb}
 use lib.ListN.{length, take, drop, set, length-map}
 use borrow.Author.Tests.{ne-eqb, lt-ltb}
 use Rattle.model.specs.Numbers.{Each, each}
-use Rattle.model.proofs.Decide.{Decides, holding, failing, passes, fails, decides-iff, decides-eq, decides-le, decides-lt, decides-range}
+use Rattle.model.proofs.Decide.{Decides, holding, failing, passes, same-test, decides-iff, decides-eq, decides-le, decides-lt, decides-range}
 use Rattle.model.proofs.Decide.{decides-or, decides-each, _and_}
 use Rattle.plan_text.specs.Lines.{Line, tab, isSkipped, isPlain, columns, letterIn, fieldsIn}
 use Rattle.plan_text.specs.Records.{sections, sectionOf, layoutOf, Digit, IsNumeral, valueOn, recordWith, noRecord, recordIn, numbersOf}
@@ -23,11 +23,6 @@ use Rattle.plan_text.proofs.Sections.{Blank}
 decides-true : (b : Bool) → Decides (b ≡ true) b
 decides-true true = holding refl
 decides-true false = failing false≢true
-
--- two tests of one condition are the same
-decides-same : {P : Type 0} {a b : Bool} → Decides P a → Decides P b → a ≡ b
-decides-same (holding h) d = sym (passes d h)
-decides-same (failing h) d = sym (fails d h)
 
 -- what is asked of a record's line alone is met by a skipped one
 pub decides-record : (skipped : Bool) {P : Type 0} {b : Bool} → (skipped ≡ false → Decides P b) → Decides (skipped ≡ false → P) (skipped || b)
@@ -98,7 +93,7 @@ module _ (fs : List (List ℕ)) (m : ℕ) where
 
     -- the count that is read tests the same
     pub count-told : eqb (fieldsRead fs .count) m ≡ (eqb (length fs) m && each isNumeral fs)
-    count-told = decides-same decides-numbers decides-fielded
+    count-told = same-test decides-numbers decides-fielded
 
 -- and the numbers are the values of the fields
 pub numbers-told : (section : ℕ) (fs : List (List ℕ)) → length fs ≤ 4 → Each IsNumeral fs

@@ -11,20 +11,13 @@ use Rattle.model.specs.Numbers.{InRange, sumTo}
 use Rattle.model.specs.Plan.{rankOf, lengthOf, IsStage, allStages, stageOf, demandOf, weightOf, Demands}
 use Rattle.model.specs.Upstream.{RankedUpTo, UpstreamOf, demands, rankedUpTo, upstreamOf, upstreamRow}
 use Rattle.model.specs.declared.Plan.{Plan}
-use Rattle.model.proofs.Decide.{Decides, holding, failing, passes, decided, decides-iff, decides-or, _and_, decides-le, decides-eq}
+use Rattle.model.proofs.Decide.{Decides, failing, passes, same-test, decided, decides-iff, decides-or, _and_, decides-le, decides-eq}
 use Rattle.model.proofs.Flat.{flatIndex, index-of-stage, one-at-index}
 use Rattle.model.proofs.Soundness.{decides-stages}
 use Rattle.model.proofs.Upstream.{decides-ranked-up-to, decides-upstream}
 use Rattle.plan_upstream_stage.specs.Due.{noRank, dueBy}
 use Rattle.plan_upstream_stage.proofs.Ranked.{lowest-ranked}
 use Rattle.plan_upstream.specs.CheckInternals.{stretchRank}
-
--- two tests that decide the same are the same
-same-test : {P : Type 0} {a b : Bool} → Decides P a → Decides P b → a ≡ b
-same-test (holding h) (holding k) = refl
-same-test (holding h) (failing k) = absurd (k h)
-same-test (failing h) (holding k) = absurd (h k)
-same-test (failing h) (failing k) = refl
 
 module _ (p : Plan) (r t : ℕ) where
   -- stage k demands the resource, or it is ranked up to it and the stage after it is upstream
@@ -68,14 +61,14 @@ module _ (p : Plan) (r t : ℕ) where
   upstream-after k last = same-test (decides-upstream p r t (suc k) (omega arith)) (failing (λ u. omega (arith, u .from, u .within)))
 
 -- the stage at index i, counted from 0
-pub record Next (p : Plan) (i : ℕ) : Type 0 where
+pub record StageAtIndex (p : Plan) (i : ℕ) : Type 0 where
   pub t : ℕ
   pub k : ℕ
   pub stage : IsStage p t k
   pub here : i + 1 ≡ flatIndex (lengthOf p) t k
 
 module _ (p : Plan) (i : ℕ) where
-  stage-of : (n : ℕ) → n ≤ p .types → i < sumTo n (lengthOf p) → Next p i
+  stage-of : (n : ℕ) → n ≤ p .types → i < sumTo n (lengthOf p) → StageAtIndex p i
   stage-of zero low more = absurd (omega arith)
   stage-of (suc n) low more =
       ⊎-elim (λ (h : suc i ≤ sumTo n (lengthOf p)). stage-of n (omega arith) h)
@@ -89,7 +82,7 @@ module _ (p : Plan) (i : ℕ) where
       })
       (decided (decides-le (suc i) (sumTo n (lengthOf p))))
 
-  pub next-stage : i < allStages p → Next p i
+  pub next-stage : i < allStages p → StageAtIndex p i
   unfolding allStages
   next-stage more = stage-of (p .types) (le-refl (p .types)) more
 
@@ -135,7 +128,7 @@ module _ (p : Plan) (r : ℕ) where
   walk-ends w = passes decides-row (λ t k h. w .seen t k h (index-of-stage p t k h .0))
 
   -- what is due to the next stage
-  module _ {i due : ℕ} (w : Walk (suc i) due) (n : Next p i) where
+  module _ {i due : ℕ} (w : Walk (suc i) due) (n : StageAtIndex p i) where
     later-is : n .k < lengthOf p (n .t) → due ≡ dueTo p r (n .t) (suc (n .k))
     later-is more = w .due-is (n .t) (suc (n .k)) (n .stage .0, (omega arith, more)) (omega (arith, n .here))
 

@@ -6,7 +6,7 @@ ghost use Rattle.model.specs.Limits.{maxJobs};
 ghost use Rattle.events.specs.JobList.{jobsOf};
 ghost use Rattle.plan_bytes.specs.Over.{planOver, stageAt};
 ghost use Rattle.internals.specs.Internals.{indexIn, sumsOf, lowestAfter, worstAfter, keptAfter};
-ghost use Rattle.internals.specs.Internals.{Few, Added};
+ghost use Rattle.internals.specs.Internals.{Few, Grown};
 ghost use Rattle.internals.specs.JobNumbers.{listOver};
 use arithmetic::u8_to_u16;
 use arithmetic::u8_to_u32;
@@ -26,7 +26,7 @@ use table_jobs::job_at;
 // The amounts with a stage's more: 64 of 255 come to 16,320. A fresh array: amounts changed in place are not vectorised.
 fn added<'a>(amounts: &'a [u16; 32], more: &'a [u8; 32]) -> [u16; 32]
     requires { ⌜ Few 16065 (now amounts) ⌝ }
-    ensures { λ r. ⌜ Added (now (amounts .entry)) (now (more .entry)) r ⌝ }
+    ensures { λ r. ⌜ Grown (now (amounts .entry)) (now (more .entry)) r ⌝ }
 {
     let mut sums = [0; 32];
     let mut i = 0;
@@ -40,7 +40,7 @@ fn added<'a>(amounts: &'a [u16; 32], more: &'a [u8; 32]) -> [u16; 32]
 // The sums with the demands and weights of the stage at an index more.
 fn with_stage(sums: Sums, stages: &[u8], at: usize) -> Sums
     requires { ⌜ Few 16065 (sums .units) × Few 16065 (sums .rows) ⌝ }
-    ensures { λ r. ⌜ Added (sums .units) (stageAt (now (stages .entry)) at .demand) (r .units) × Added (sums .rows) (stageAt (now (stages .entry)) at .weight) (r .rows) ⌝ }
+    ensures { λ r. ⌜ Grown (sums .units) (stageAt (now (stages .entry)) at .demand) (r .units) × Grown (sums .rows) (stageAt (now (stages .entry)) at .weight) (r .rows) ⌝ }
 {
     let demands = demands_at(stages, at);
     let weights = weights_at(stages, at);

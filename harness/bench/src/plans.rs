@@ -48,13 +48,13 @@ pub fn event_plan(size: Size, full: Option<&Table>) -> Plan {
     let count = usize::from(plan.resources);
     let length = usize::from(plan.lengths[0]);
     plan.bound[..count].fill(65_535);
-    for place in 0..plan.total() {
-        let stage = &mut plan.stages[place];
+    for at in 0..plan.total() {
+        let stage = &mut plan.stages[at];
         for other in 0..count {
-            stage.demand[other] = 1 + ((place * 5 + other * 3) % 4) as u8;
-            stage.weight[other] = 1 + ((place * 11 + other * 7) % 255) as u8;
+            stage.demand[other] = 1 + ((at * 5 + other * 3) % 4) as u8;
+            stage.weight[other] = 1 + ((at * 11 + other * 7) % 255) as u8;
         }
-        stage.weight[count - 1] = (place % length + 1) as u8;
+        stage.weight[count - 1] = (at % length + 1) as u8;
     }
     if let Some(table) = full {
         plan.bound[count - 1] = table.active().iter().map(|job| job.stage as u16).sum();
@@ -66,11 +66,11 @@ pub fn event_plan(size: Size, full: Option<&Table>) -> Plan {
 pub fn event_table(size: Size, jobs: usize) -> Table {
     let plan = outline(size, 2);
     let mut table = Table::EMPTY;
-    for place in 0..jobs as u32 {
+    for at in 0..jobs as u32 {
         table.push(Job {
-            number: place + 1,
-            kind: place % u32::from(plan.types) + 1,
-            stage: place % (u32::from(plan.lengths[0]) - 1) + 1,
+            number: at + 1,
+            kind: at % u32::from(plan.types) + 1,
+            stage: at % (u32::from(plan.lengths[0]) - 1) + 1,
         });
     }
     table
@@ -81,11 +81,11 @@ pub fn conforming_plan(size: Size) -> Plan {
     let mut plan = outline(size, 1);
     let count = usize::from(plan.resources);
     plan.bound[..count].fill(255);
-    for place in 0..count {
-        plan.rank[place] = 1 + (place * 13 % 32) as u8;
+    for at in 0..count {
+        plan.rank[at] = 1 + (at * 13 % 32) as u8;
     }
-    for place in 0..plan.total() {
-        plan.stages[place].demand[place * 21 % count] = 1;
+    for at in 0..plan.total() {
+        plan.stages[at].demand[at * 21 % count] = 1;
     }
     weigh_upstream(&mut plan);
     plan
@@ -94,10 +94,10 @@ pub fn conforming_plan(size: Size) -> Plan {
 /// So many jobs at stage 1, over all types.
 pub fn first_stages(plan: &Plan, jobs: u32) -> Table {
     let mut table = Table::EMPTY;
-    for place in 0..jobs {
+    for at in 0..jobs {
         table.push(Job {
-            number: place + 1,
-            kind: place % u32::from(plan.types) + 1,
+            number: at + 1,
+            kind: at % u32::from(plan.types) + 1,
             stage: 1,
         });
     }
@@ -107,7 +107,7 @@ pub fn first_stages(plan: &Plan, jobs: u32) -> Table {
 /// A valid text of exactly this length with the highest counts: after what is needed, as many
 /// demands and weights as fit, then a comment.
 pub fn full_text(length: usize) -> Vec<u8> {
-    let stages = || (0..128).map(|place| (place / 8 + 1, place % 8 + 1));
+    let stages = || (0..128).map(|at| (at / 8 + 1, at % 8 + 1));
     let numbered = |letter: char, count: usize, value: u32| -> String {
         (1..=count)
             .map(|number| format!("{letter}\t{number}\t{value}\n"))

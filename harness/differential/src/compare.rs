@@ -262,7 +262,7 @@ pub fn compare_bytes(expected: &[u8], found: &[u8]) -> Result<(), String> {
     if expected == found {
         return Ok(());
     }
-    let differs = |&place: &usize| expected[place] != found[place];
+    let differs = |&offset: &usize| expected[offset] != found[offset];
     let places: Vec<usize> = (0..expected.len()).filter(differs).collect();
     let first = places[0];
     Err(format!(
@@ -308,11 +308,14 @@ mod tests {
     fn every_changed_byte_is_reported() {
         let right = vec![7; CELL_SIZE];
         assert!(compare_bytes(&right, &right).is_ok());
-        for place in 0..CELL_SIZE {
+        for offset in 0..CELL_SIZE {
             let mut wrong = right.clone();
-            wrong[place] ^= 1;
+            wrong[offset] ^= 1;
             let report = compare_bytes(&right, &wrong).expect_err("a difference");
-            assert!(report.contains(&format!("first byte {place}:")), "{report}");
+            assert!(
+                report.contains(&format!("first byte {offset}:")),
+                "{report}"
+            );
         }
         assert!(compare_bytes(&right, &right[1..]).is_err());
     }

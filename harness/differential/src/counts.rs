@@ -152,9 +152,9 @@ impl Counts {
     pub fn add_broken(&mut self, broken: &Broken) {
         self.add(Group::RowsBroken, broken.rows);
         if broken.equals < broken.rows {
-            self.add(Group::RowNamed, broken.place);
+            self.add(Group::RowNamed, broken.ordinal);
         }
-        let group = match broken.place {
+        let group = match broken.ordinal {
             1 => Group::WorstFirst,
             _ => Group::WorstLater,
         };
@@ -182,9 +182,9 @@ impl Counts {
     }
 
     pub fn merge(&mut self, other: &Counts) {
-        let places = self.numbers.iter_mut().flatten();
-        for (place, more) in places.zip(other.numbers.iter().flatten()) {
-            *place += more;
+        let counts = self.numbers.iter_mut().flatten();
+        for (count, more) in counts.zip(other.numbers.iter().flatten()) {
+            *count += more;
         }
     }
 
@@ -232,11 +232,11 @@ mod tests {
     #[test]
     fn broken_rows_are_counted() {
         let mut counts = Counts::default();
-        for [rows, worst, place, equals] in [[3, 8, 2, 2], [2, 5, 1, 2], [1, 1, 1, 1]] {
+        for [rows, worst, ordinal, equals] in [[3, 8, 2, 2], [2, 5, 1, 2], [1, 1, 1, 1]] {
             counts.add_broken(&Broken {
                 rows,
                 worst,
-                place,
+                ordinal,
                 equals,
             });
         }

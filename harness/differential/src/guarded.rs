@@ -41,13 +41,13 @@ mod tests {
 
     #[test]
     fn bytes_outside_are_asked() {
-        for place in [0, 63, 64, 73, 74, 137] {
+        for offset in [0, 63, 64, 73, 74, 137] {
             let mut guarded = Guarded::new(&[1; 10]);
             assert_eq!(guarded.inner(), [1; 10]);
             assert!(guarded.check().is_ok());
-            guarded.bytes[place] ^= 1;
-            let is_inner = (64..74).contains(&place);
-            assert_eq!(guarded.check().is_ok(), is_inner, "byte {place}");
+            guarded.bytes[offset] ^= 1;
+            let is_inner = (64..74).contains(&offset);
+            assert_eq!(guarded.check().is_ok(), is_inner, "byte {offset}");
         }
     }
 }

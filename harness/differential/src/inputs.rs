@@ -167,6 +167,6 @@ fn pad(random: &mut Random, input: &mut Vec<u8>) {
     };
     let mut comment = vec![b'#'; left];
     comment[left - 1] = b'\n';
-    let place = if random.chance(50) { 0 } else { input.len() };
-    input.splice(place..place, comment);
+    let at = if random.chance(50) { 0 } else { input.len() };
+    input.splice(at..at, comment);
 }

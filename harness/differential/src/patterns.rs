@@ -81,8 +81,8 @@ pub fn change_plan(random: &mut Random, plan: &mut Plan) {
 fn lengthen(random: &mut Random, plan: &mut Plan) {
     plan.lengths[random.below(usize::from(plan.types).clamp(1, 16))] = random.between(31, 34) as u8;
     let resource = random.below(usize::from(plan.resources).clamp(1, 32));
-    for place in 0..plan.total().min(128) {
-        let stage = &mut plan.stages[place];
+    for at in 0..plan.total().min(128) {
+        let stage = &mut plan.stages[at];
         if stage.demand == [0; 32] {
             stage.demand[resource] = 1;
         }
@@ -91,16 +91,13 @@ fn lengthen(random: &mut Random, plan: &mut Plan) {
 
 fn change_count(random: &mut Random, plan: &mut Plan) {
     let total = plan.total();
-    let place = random.below(usize::from(plan.types).clamp(1, 16));
+    let at = random.below(usize::from(plan.types).clamp(1, 16));
     let (count, highest) = match random.below(4) {
         0 => (&mut plan.resources, 32),
         1 => (&mut plan.types, 16),
         2 => (&mut plan.rows, 32),
         // The length that brings the total to 129, if one type can have it.
-        _ => (
-            &mut plan.lengths[place],
-            129usize.saturating_sub(total) as u8,
-        ),
+        _ => (&mut plan.lengths[at], 129usize.saturating_sub(total) as u8),
     };
     let (less, more) = (count.wrapping_sub(1), count.wrapping_add(1));
     *count = random.pick(&[0, less, more, highest, highest.wrapping_add(1), 33, 255]);
@@ -126,7 +123,7 @@ fn change_beyond(random: &mut Random, plan: &mut Plan) {
     }
 }
 
-/// A place from `count` on, mostly the first or the last.
+/// An index from `count` on, mostly the first or the last.
 fn beyond(random: &mut Random, count: u8, most: usize) -> usize {
     let first = usize::from(count).min(most - 1);
     let any = random.between(first, most - 1);
@@ -135,9 +132,9 @@ fn beyond(random: &mut Random, count: u8, most: usize) -> usize {
 
 /// Demands and weights of one stage.
 fn change_stage(random: &mut Random, plan: &mut Plan) {
-    let place = random.below(plan.total().clamp(1, 128));
+    let at = random.below(plan.total().clamp(1, 128));
     let resource = random.below(usize::from(plan.resources).clamp(1, 32));
-    let stage = &mut plan.stages[place];
+    let stage = &mut plan.stages[at];
     match random.below(5) {
         0 => stage.demand = [0; 32],
         1 => stage.demand[resource] = plan.capacity[resource].wrapping_add(1),
@@ -176,25 +173,25 @@ fn change_tables(random: &mut Random, plan: &mut Plan, table: &mut Table) {
 /// One change that mostly ends the agreement.
 fn change_table(random: &mut Random, plan: &Plan, table: &mut Table) {
     let count = usize::from(table.count).min(64);
-    let place = random.below(count.max(1));
+    let at = random.below(count.max(1));
     let other = random.below(count.max(1));
     match random.below(9) {
         0 => table.count = random.between(65, 255) as u8,
         1 => table.count = random.pick(&[0, 64, table.count.wrapping_sub(1), count as u8 + 1]),
-        2 => table.jobs[place].number = table.jobs[other].number,
-        3 => table.jobs[place].number = bad_near(random, 65_535),
-        4 => table.jobs[place].kind = bad_near(random, plan.types.into()),
+        2 => table.jobs[at].number = table.jobs[other].number,
+        3 => table.jobs[at].number = bad_near(random, 65_535),
+        4 => table.jobs[at].kind = bad_near(random, plan.types.into()),
         5 => {
-            let kind = table.jobs[place].kind as usize;
+            let kind = table.jobs[at].kind as usize;
             let length = *plan.lengths.get(kind.wrapping_sub(1)).unwrap_or(&1);
-            table.jobs[place].stage = bad_near(random, length.into());
+            table.jobs[at].stage = bad_near(random, length.into());
         }
-        6 => table.jobs.swap(place, other),
-        7 => table.jobs[place] = Job::NONE,
+        6 => table.jobs.swap(at, other),
+        7 => table.jobs[at] = Job::NONE,
         _ => {
-            let place = beyond(random, count as u8, 64);
+            let at = beyond(random, count as u8, 64);
             let bit = 1 << random.below(32);
-            let job = &mut table.jobs[place];
+            let job = &mut table.jobs[at];
             *random_field(random, job) ^= bit;
         }
     }

@@ -100,12 +100,12 @@ pub fn general(random: &mut Random, size: Size, room: Room) -> Plan {
         };
     }
     let dense = random.chance(10);
-    for place in 0..plan.total() {
+    for at in 0..plan.total() {
         let demands = match dense {
             true => resources,
             false => random.between(1, resources.min(3)),
         };
-        set_demands(random, &mut plan, place, demands, room);
+        set_demands(random, &mut plan, at, demands, room);
     }
     let heavy = random.chance(30);
     for row in 0..usize::from(plan.rows) {
@@ -179,12 +179,12 @@ pub fn set_edges(random: &mut Random, plan: &mut Plan) {
 /// Takes one weight or demand away; one demand of each stage is kept, so the plan stays sound.
 fn thin(random: &mut Random, plan: &mut Plan) {
     loop {
-        let place = random.below(plan.stages.len());
+        let at = random.below(plan.stages.len());
         let number = random.below(32);
-        let stage = &mut plan.stages[place];
+        let stage = &mut plan.stages[at];
         let value = match random.chance(50) {
             true => &mut stage.weight[number],
-            false if number == place % 32 => continue,
+            false if number == at % 32 => continue,
             false => &mut stage.demand[number],
         };
         if *value != 0 {
@@ -194,7 +194,7 @@ fn thin(random: &mut Random, plan: &mut Plan) {
     }
 }
 
-fn set_demands(random: &mut Random, plan: &mut Plan, place: usize, demands: usize, room: Room) {
+fn set_demands(random: &mut Random, plan: &mut Plan, at: usize, demands: usize, room: Room) {
     let resources = usize::from(plan.resources);
     let first = random.below(resources);
     for step in 0..demands {
@@ -203,7 +203,7 @@ fn set_demands(random: &mut Random, plan: &mut Plan, place: usize, demands: usiz
             Room::Rows | Room::Wide => 3,
             Room::Tight | Room::Any => usize::from(plan.capacity[resource]),
         };
-        plan.stages[place].demand[resource] = random.between(1, highest) as u8;
+        plan.stages[at].demand[resource] = random.between(1, highest) as u8;
     }
 }
 
@@ -245,14 +245,14 @@ pub fn conforming(random: &mut Random, size: Size) -> Plan {
     plan.rows = plan.resources;
     set_ranks(random, &mut plan);
     let highest = random.pick(&[1, 3, 255]);
-    for place in 0..usize::from(plan.resources) {
+    for at in 0..usize::from(plan.resources) {
         let capacity = random.between(1, highest);
-        plan.capacity[place] = capacity as u8;
-        plan.bound[place] = random.between(1, capacity) as u16;
+        plan.capacity[at] = capacity as u8;
+        plan.bound[at] = random.between(1, capacity) as u16;
     }
-    for place in 0..plan.total() {
+    for at in 0..plan.total() {
         let resource = random.below(usize::from(plan.resources));
-        plan.stages[place].demand[resource] = 1;
+        plan.stages[at].demand[resource] = 1;
     }
     weigh_upstream(&mut plan);
     plan
@@ -266,8 +266,8 @@ pub fn weigh_upstream(plan: &mut Plan) {
     for length in plan.lengths.map(usize::from) {
         let demanded: Vec<usize> = plan.stages[start..start + length]
             .iter()
-            .map(|stage| (0..resources).find(|&place| stage.demand[place] != 0))
-            .map(|place| place.expect("every stage demands a resource"))
+            .map(|stage| (0..resources).find(|&at| stage.demand[at] != 0))
+            .map(|at| at.expect("every stage demands a resource"))
             .collect();
         for k in 0..length {
             for row in 0..resources {
@@ -290,9 +290,9 @@ pub fn used(plan: &Plan, table: &Table) -> ([u32; 32], [u32; 32]) {
         let earlier = plan.lengths[..job.kind as usize - 1].iter();
         let start: usize = earlier.map(|&length| usize::from(length)).sum();
         let stage = &plan.stages[start + job.stage as usize - 1];
-        for place in 0..32 {
-            units[place] += u32::from(stage.demand[place]);
-            sums[place] += u32::from(stage.weight[place]);
+        for at in 0..32 {
+            units[at] += u32::from(stage.demand[at]);
+            sums[at] += u32::from(stage.weight[at]);
         }
     }
     (units, sums)
@@ -300,9 +300,8 @@ pub fn used(plan: &Plan, table: &Table) -> ([u32; 32], [u32; 32]) {
 
 fn fits(plan: &Plan, table: &Table) -> bool {
     let (units, sums) = used(plan, table);
-    (0..32).all(|place| {
-        units[place] <= u32::from(plan.capacity[place])
-            && sums[place] <= u32::from(plan.bound[place])
+    (0..32).all(|at| {
+        units[at] <= u32::from(plan.capacity[at]) && sums[at] <= u32::from(plan.bound[at])
     })
 }
 
@@ -343,18 +342,18 @@ pub fn table(random: &mut Random, plan: &Plan, highest: usize) -> Table {
 /// decide. The table stays in agreement and the plan sound.
 pub fn tighten(random: &mut Random, plan: &mut Plan, table: &Table) {
     let (units, sums) = used(plan, table);
-    for (place, &units) in units[..usize::from(plan.resources)].iter().enumerate() {
+    for (at, &units) in units[..usize::from(plan.resources)].iter().enumerate() {
         if random.chance(50) {
-            let demands = plan.stages.iter().map(|stage| stage.demand[place]);
+            let demands = plan.stages.iter().map(|stage| stage.demand[at]);
             let lowest = units.max(demands.max().unwrap_or(1).max(1).into());
             let capacity = lowest + random.pick(&[0, 0, 1, 2]);
-            plan.capacity[place] = capacity.min(255) as u8;
+            plan.capacity[at] = capacity.min(255) as u8;
         }
     }
-    for (place, &sum) in sums[..usize::from(plan.rows)].iter().enumerate() {
+    for (at, &sum) in sums[..usize::from(plan.rows)].iter().enumerate() {
         if random.chance(50) {
             let bound = sum + random.pick(&[0, 0, 1, 2, 100]);
-            plan.bound[place] = bound.min(65_535) as u16;
+            plan.bound[at] = bound.min(65_535) as u16;
         }
     }
 }
@@ -362,8 +361,8 @@ pub fn tighten(random: &mut Random, plan: &mut Plan, table: &Table) {
 /// Puts jobs in the table whether they fit or not.
 pub fn overfill(random: &mut Random, plan: &Plan, table: &mut Table) {
     let count = usize::from(table.count);
-    for place in count..64.min(count + random.between(1, 8)) {
-        table.jobs[place] = job(random, plan, table);
+    for at in count..64.min(count + random.between(1, 8)) {
+        table.jobs[at] = job(random, plan, table);
         table.count += 1;
     }
 }
@@ -371,31 +370,31 @@ pub fn overfill(random: &mut Random, plan: &Plan, table: &mut Table) {
 /// Sets one capacity or bound that is in use to one less than what an agreeing table uses.
 pub fn undercut(random: &mut Random, plan: &mut Plan, table: &Table) {
     let (units, sums) = used(plan, table);
-    let place = random.below(32);
-    if units[place] > 1 && random.chance(50) {
-        plan.capacity[place] = units[place] as u8 - 1;
-    } else if sums[place] > 0 {
-        plan.bound[place] = sums[place] as u16 - 1;
+    let at = random.below(32);
+    if units[at] > 1 && random.chance(50) {
+        plan.capacity[at] = units[at] as u8 - 1;
+    } else if sums[at] > 0 {
+        plan.bound[at] = sums[at] as u16 - 1;
     }
 }
 
 /// One fault that the check answers with this number, 21 to 25, if no other comes before it.
 /// The plan stays sound.
 pub fn add_fault(random: &mut Random, plan: &mut Plan, number: u32) {
-    let place = random.below(plan.total());
+    let at = random.below(plan.total());
     let resource = random.below(usize::from(plan.resources));
     let rows = usize::from(plan.rows);
     match number {
         21 => plan.rank = [0; 32],
         22 => {
-            let demand = &mut plan.stages[place].demand[resource];
+            let demand = &mut plan.stages[at].demand[resource];
             *demand = demand.saturating_add(1);
             plan.capacity[resource] = plan.capacity[resource].max(*demand);
         }
         23 if rows == 32 || random.chance(50) => set_rows(plan, random.below(rows.max(1))),
         23 => set_rows(plan, rows + 1),
         24 if rows > 0 => {
-            let weight = &mut plan.stages[place].weight[random.below(rows)];
+            let weight = &mut plan.stages[at].weight[random.below(rows)];
             *weight = match *weight {
                 0 => random.pick(&[1, 1, 255]),
                 _ => random.pick(&[0, 0, 2]),

@@ -10,8 +10,8 @@ pub struct Broken {
     pub rows: u32,
     /// The row exceeded by the most, of equals the lowest.
     pub worst: u32,
-    /// Its place among those broken, counted from 1.
-    pub place: u32,
+    /// Which of those broken it is, counted from 1.
+    pub ordinal: u32,
     /// How many are exceeded by as much, itself included.
     pub equals: u32,
 }
@@ -22,11 +22,11 @@ pub fn broken(call: Call, plan: &Plan, table: &Table) -> Option<Broken> {
     let excess = |row: usize| sums[row].saturating_sub(plan.bound[row].into());
     let rows: Vec<usize> = (0..32).filter(|&row| excess(row) > 0).collect();
     let most = rows.iter().map(|&row| excess(row)).max()?;
-    let place = rows.iter().position(|&row| excess(row) == most)?;
+    let position = rows.iter().position(|&row| excess(row) == most)?;
     Some(Broken {
         rows: rows.len() as u32,
-        worst: rows[place] as u32 + 1,
-        place: place as u32 + 1,
+        worst: rows[position] as u32 + 1,
+        ordinal: position as u32 + 1,
         equals: rows.iter().filter(|&&row| excess(row) == most).count() as u32,
     })
 }
@@ -69,7 +69,7 @@ mod tests {
         let one = after(load(7), &Table::EMPTY);
         let found = |call| {
             broken(call, &plan, &one)
-                .map(|broken| [broken.rows, broken.worst, broken.place, broken.equals])
+                .map(|broken| [broken.rows, broken.worst, broken.ordinal, broken.equals])
         };
         assert_eq!(found(load(8)), Some([3, 2, 2, 2]));
         assert_eq!(found(Call::Advance { job: 7 }), Some([2, 1, 1, 1]));

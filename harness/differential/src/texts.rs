@@ -237,7 +237,7 @@ pub fn damaged(random: &mut Random) -> Vec<u8> {
 /// A line of some letter, so that short sections are met as often as long ones, or any line.
 fn pick_line(random: &mut Random, lines: &Lines) -> usize {
     let letter = random.pick(b"CRTSBAK#");
-    let is_found = |&place: &usize| lines[place].first() == Some(&letter);
+    let is_found = |&at: &usize| lines[at].first() == Some(&letter);
     let found: Vec<usize> = (0..lines.len()).filter(is_found).collect();
     match found.is_empty() || random.chance(20) {
         true => random.below(lines.len()),
@@ -250,36 +250,34 @@ fn change_lines(random: &mut Random, plan: &Plan, lines: &mut Lines) {
     if lines.is_empty() {
         return;
     }
-    let place = pick_line(random, lines);
+    let at = pick_line(random, lines);
     let other = random.below(lines.len());
-    let next = (place + 1) % lines.len();
+    let next = (at + 1) % lines.len();
     match random.below(16) {
-        0..=2 => drop(lines.remove(place)),
-        3 => lines.insert(place + 1, lines[place].clone()),
-        4 => lines.insert(other, lines[place].clone()),
+        0..=2 => drop(lines.remove(at)),
+        3 => lines.insert(at + 1, lines[at].clone()),
+        4 => lines.insert(other, lines[at].clone()),
         5 => {
-            let mut again = lines[place].clone();
+            let mut again = lines[at].clone();
             change_fields(&mut again, |fields| put_in_range(random, plan, fields));
-            lines.insert(place + 1, again);
+            lines.insert(at + 1, again);
         }
-        6 => lines.swap(place, other),
-        7 => lines.swap(place, next),
-        8 => lines.truncate(place),
+        6 => lines.swap(at, other),
+        7 => lines.swap(at, next),
+        8 => lines.truncate(at),
         9 => lines.insert(other.min(3), second_c(random)),
         10 => {
             let letter = random.pick(&["C", "R", "T", "S", "B", "A", "K", "E", "c", "", "RR"]);
-            change_fields(&mut lines[place], |fields| fields[0] = letter.into());
+            change_fields(&mut lines[at], |fields| fields[0] = letter.into());
         }
-        11 => change_fields(&mut lines[place], |fields| {
+        11 => change_fields(&mut lines[at], |fields| {
             fields.insert(random.between(1, fields.len()), "1".into());
         }),
-        12 => change_fields(&mut lines[place], |fields| {
+        12 => change_fields(&mut lines[at], |fields| {
             fields.remove(random.below(fields.len()));
         }),
-        13 => change_bytes(random, &mut lines[place]),
-        _ => change_fields(&mut lines[place], |fields| {
-            change_number(random, plan, fields)
-        }),
+        13 => change_bytes(random, &mut lines[at]),
+        _ => change_fields(&mut lines[at], |fields| change_number(random, plan, fields)),
     }
 }
 
@@ -295,10 +293,10 @@ fn change_number(random: &mut Random, plan: &Plan, fields: &mut Lines) {
     if fields.len() < 2 {
         return;
     }
-    let place = random.between(1, fields.len() - 1);
-    let (low, high) = range(plan, fields, place);
+    let at = random.between(1, fields.len() - 1);
+    let (low, high) = range(plan, fields, at);
     let ends = [low.saturating_sub(1), low, high, high + 1];
-    fields[place] = match random.chance(75) {
+    fields[at] = match random.chance(75) {
         true => random.pick(&ends).to_string().into(),
         false => random.pick(&FIELDS.split('|').collect::<Vec<_>>()).into(),
     };
@@ -306,19 +304,17 @@ fn change_number(random: &mut Random, plan: &Plan, fields: &mut Lines) {
 
 /// Puts another number of its range in the last field.
 fn put_in_range(random: &mut Random, plan: &Plan, fields: &mut Lines) {
-    let place = fields.len() - 1;
-    if place > 0 {
-        let (low, high) = range(plan, fields, place);
-        fields[place] = random.pick(&[low, high]).to_string().into();
+    let at = fields.len() - 1;
+    if at > 0 {
+        let (low, high) = range(plan, fields, at);
+        fields[at] = random.pick(&[low, high]).to_string().into();
     }
 }
 
 /// Lowest and highest number of a field of a record.
-fn range(plan: &Plan, fields: &Lines, place: usize) -> (usize, usize) {
-    let value = |place: usize| {
-        let text = fields
-            .get(place)
-            .map(|field| String::from_utf8_lossy(field));
+fn range(plan: &Plan, fields: &Lines, at: usize) -> (usize, usize) {
+    let value = |at: usize| {
+        let text = fields.get(at).map(|field| String::from_utf8_lossy(field));
         text.and_then(|text| text.parse().ok()).unwrap_or(0usize)
     };
     let of = |values: &[u8], number: usize| {
@@ -326,7 +322,7 @@ fn range(plan: &Plan, fields: &Lines, place: usize) -> (usize, usize) {
         usize::from(*value.unwrap_or(&1))
     };
     let letter = fields[0].first().copied().unwrap_or(b' ');
-    match (letter, place) {
+    match (letter, at) {
         (b'C', 2) => (1, 16),
         (b'C', 3) => (0, 32),
         (b'R' | b'K', 1) | (b'S', 3) => (1, plan.resources.into()),
@@ -352,16 +348,16 @@ pub fn change_bytes(random: &mut Random, bytes: &mut Vec<u8>) {
     if bytes.is_empty() {
         return;
     }
-    let place = random.below(bytes.len());
+    let at = random.below(bytes.len());
     let byte = match random.chance(80) {
         true => random.pick(BYTES),
         false => random.byte(),
     };
     match random.below(10) {
-        0..=3 => bytes[place] = byte,
-        4..=5 => bytes.insert(place, byte),
-        6..=7 => drop(bytes.remove(place)),
-        8 => bytes.truncate(place),
+        0..=3 => bytes[at] = byte,
+        4..=5 => bytes.insert(at, byte),
+        6..=7 => drop(bytes.remove(at)),
+        8 => bytes.truncate(at),
         _ => drop(bytes.pop()),
     }
 }
@@ -410,12 +406,12 @@ fn fill_up(random: &mut Random, lines: &mut Lines, length: usize) {
         if let Some(first) = comment.first_mut() {
             *first = b'#';
         }
-        let place = if left == 0 {
+        let at = if left == 0 {
             lines.len()
         } else {
             random.below(lines.len() + 1)
         };
-        lines.insert(place, comment);
+        lines.insert(at, comment);
     }
 }
 

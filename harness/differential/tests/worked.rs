@@ -294,9 +294,9 @@ fn full_table() {
 /// A job is pulled at whichever stage it has.
 #[test]
 fn pulls_at_every_stage() {
-    for place in 0..6 {
+    for at in 0..6 {
         let mut one = [0; 6];
-        one[place] = 1;
+        one[at] = 1;
         let mut bytes = cell(CROSSING, one);
         assert_eq!(rilthoss::pull(&mut bytes, 1), answer(0, 0, 0));
         assert_eq!(bytes, cell(CROSSING, [0; 6]));
@@ -427,9 +427,9 @@ fn far_too_long() {
 }
 
 /// A cell with a byte changed.
-fn changed(text: &str, place: usize, byte: u8) -> Vec<u8> {
+fn changed(text: &str, offset: usize, byte: u8) -> Vec<u8> {
     let mut bytes = cell(text, [0; 6]);
-    bytes[place] = byte;
+    bytes[offset] = byte;
     bytes
 }
 

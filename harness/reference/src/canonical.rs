@@ -111,8 +111,8 @@ fn put_byte(rest: &mut &mut [u8], byte: u8) {
 }
 
 fn put_number(rest: &mut &mut [u8], mut number: u16) {
-    for place in take(rest, digit_count(number)).iter_mut().rev() {
-        *place = b'0' + (number % 10) as u8;
+    for digit in take(rest, digit_count(number)).iter_mut().rev() {
+        *digit = b'0' + (number % 10) as u8;
         number /= 10;
     }
 }

@@ -84,7 +84,7 @@ impl Table {
         self.count += 1;
     }
 
-    /// Strikes a job; the others keep their order and the place left at the end is zero.
+    /// Strikes a job; the others keep their order and the slot left at the end is zero.
     pub fn remove(&mut self, position: usize) {
         let end = usize::from(self.count);
         self.jobs.copy_within(position + 1..end, position);
@@ -120,8 +120,8 @@ impl Usage {
     /// The lowest resource whose capacity is exceeded, counted from 1.
     pub fn exceeded(&self, plan: &Plan) -> Option<u32> {
         let mut pairs = self.units.iter().zip(&plan.capacity);
-        let place = pairs.position(|(&units, &capacity)| units > u16::from(capacity))?;
-        Some(place as u32 + 1)
+        let position = pairs.position(|(&units, &capacity)| units > u16::from(capacity))?;
+        Some(position as u32 + 1)
     }
 
     /// The row exceeded by the most and its excess; of equals the lowest, since only a greater

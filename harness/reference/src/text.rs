@@ -171,21 +171,21 @@ impl Reader {
         }
     }
 
-    /// Question 6, the total of 128, and the record's place in the plan. The numbers are in
-    /// range, so they fit their places; the types' lengths are final before the first S.
+    /// Question 6, the total of 128, and the record's entry of the plan. The numbers are in
+    /// range, so they fit their entries; the types' lengths are final before the first S.
     fn write(&mut self, section: Section, fields: Fields) -> Result<(), u32> {
         let plan = &mut self.plan;
         let [first, second, third, fourth] = fields;
-        let place = first as usize - 1;
+        let at = first as usize - 1;
         match section {
             Section::C => {
                 write_once(&mut plan.resources, first)?;
                 plan.types = second as u8;
                 plan.rows = third as u8;
             }
-            Section::R => write_once(&mut plan.capacity[place], second)?,
+            Section::R => write_once(&mut plan.capacity[at], second)?,
             Section::T => {
-                write_once(&mut plan.lengths[place], second)?;
+                write_once(&mut plan.lengths[at], second)?;
                 if plan.total() > MAX_STAGES {
                     return Err(5);
                 }
@@ -195,17 +195,17 @@ impl Reader {
                 write_once(&mut plan.stages[stage].demand[third as usize - 1], fourth)?;
             }
             Section::B => {
-                if self.bounded[place] {
+                if self.bounded[at] {
                     return Err(6);
                 }
-                self.bounded[place] = true;
-                plan.bound[place] = second as u16;
+                self.bounded[at] = true;
+                plan.bound[at] = second as u16;
             }
             Section::A => {
                 let stage = plan.stage_index(second, third).ok_or(5u32)?;
-                write_once(&mut plan.stages[stage].weight[place], fourth)?;
+                write_once(&mut plan.stages[stage].weight[at], fourth)?;
             }
-            Section::K => write_once(&mut plan.rank[place], second)?,
+            Section::K => write_once(&mut plan.rank[at], second)?,
         }
         Ok(())
     }
@@ -227,11 +227,11 @@ fn read_fields<'a>(mut parts: impl Iterator<Item = &'a [u8]>, count: usize) -> O
     parts.next().is_none().then_some(fields)
 }
 
-/// Question 6 for places whose numbers are at least 1: a place already written holds its key.
-fn write_once(place: &mut u8, value: u32) -> Result<(), u32> {
-    if *place != 0 {
+/// Question 6 for entries whose numbers are at least 1: an entry already written holds its key.
+fn write_once(entry: &mut u8, value: u32) -> Result<(), u32> {
+    if *entry != 0 {
         return Err(6);
     }
-    *place = value as u8;
+    *entry = value as u8;
     Ok(())
 }

@@ -53,12 +53,12 @@ fn read_again() {
     let longest = longest();
     let texts = CANONICAL.iter().copied().chain([&*longest]);
     let plans: Vec<Plan> = texts.map(plan).collect();
-    for (place, plan) in plans.iter().enumerate() {
+    for (at, plan) in plans.iter().enumerate() {
         let text = written(plan, MAX_TEXT);
         let reading = read_plan(&text);
         assert_eq!(reading.number, 0);
         assert_eq!(reading.plan, *plan);
-        for other in &plans[..place] {
+        for other in &plans[..at] {
             assert_ne!(text, written(other, MAX_TEXT));
         }
     }

@@ -46,10 +46,10 @@ fn reachable(plan: &Plan) -> BTreeMap<State, BTreeSet<State>> {
     let mut graph = BTreeMap::new();
     let mut open = vec![[0; 6]];
     while let Some(next) = open.pop() {
-        if let Entry::Vacant(place) = graph.entry(next) {
+        if let Entry::Vacant(slot) = graph.entry(next) {
             let after = successors(plan, next);
             open.extend(&after);
-            place.insert(after);
+            slot.insert(after);
         }
     }
     graph

@@ -6,13 +6,13 @@ use mathlib.Core.Path.{_≡_, refl}
 use denote.Ref.{now}
 use lib.ListN.{length}
 use Rattle.cell_layout.specs.Layout.{bytesOf, offsetOf, boundsPart, cellSize}
-use Rattle.cell_layout.proofs.EntryBytes.{Written, none-written, more-written, all-written, written-length}
+use Rattle.cell_layout.proofs.EntryBytes.{EntriesLaid, none-written, more-written, all-written, written-length}
 use borrow.Author.Needs.{needs}
 use Rattle.cell_writes.proofs.lay_bounds.Statement.{statement}
 use Rattle.cell_writes.proofs.lay_bounds.Tie as tie
 
 abbrev Inv-loop : tie.InvT-loop
-Inv-loop cell₀ bound i₀ cell i = (i ≤ 32) × (length bound ≡ 32) × (cellSize ≤ length cell) × Written (bytesOf 2) 2 (offsetOf boundsPart) bound cell₀ i cell
+Inv-loop cell₀ bound i₀ cell i = (i ≤ 32) × (length bound ≡ 32) × (cellSize ≤ length cell) × EntriesLaid (bytesOf 2) 2 (offsetOf boundsPart) bound cell₀ i cell
 
 abbrev μ-loop : tie.MeasureT-loop
 μ-loop cell₀ bound i₀ cell i = 32 - i

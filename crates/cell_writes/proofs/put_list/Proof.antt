@@ -11,7 +11,7 @@ use Rattle.events.proofs.Arrays.{list-slots}
 use Rattle.events.specs.declared.JobList.{JobList}
 use Rattle.cell_layout.specs.Layout.{bytesOf, bytesOfEach, jobBytes, jobSize, offsetOf, jobCountPart, jobsPart, cellSize, withList}
 use Rattle.cell_layout.proofs.Cells.{is-cell, no-cell}
-use Rattle.cell_layout.proofs.EntryBytes.{one-stored, joined-length, Written, none-written, more-written, all-written, written-length}
+use Rattle.cell_layout.proofs.EntryBytes.{one-stored, joined-length, EntriesLaid, none-written, more-written, all-written, written-length}
 use Rattle.cell_layout.proofs.Parts.{put-into}
 use borrow.Author.Needs.{needs}
 use Rattle.cell_writes.proofs.put_list.Statement.{statement}
@@ -22,7 +22,7 @@ abbrev counted : JobList → List ℕ → List ℕ
 counted l bytes = set bytes (offsetOf jobCountPart) (l .count % 256)
 
 abbrev Laid : JobList → List ℕ → ℕ → List ℕ → Type 0
-Laid l bytes i now = Written jobBytes jobSize (offsetOf jobsPart) (l .jobs) bytes i now
+Laid l bytes i now = EntriesLaid jobBytes jobSize (offsetOf jobsPart) (l .jobs) bytes i now
 
 laid-length : (l : JobList) (bytes : List ℕ) (i : ℕ) {now : List ℕ} → Laid l bytes i now → length now ≡ length bytes
 laid-length l bytes i w = written-length jobBytes jobSize (offsetOf jobsPart) (l .jobs) bytes i w

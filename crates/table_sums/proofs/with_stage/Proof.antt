@@ -1,7 +1,7 @@
 -- Each list grows by what the stage has in its own.
 use mathlib.Core.Path.{subst}
 use borrow.Author.Needs.{needs}
-use Rattle.internals.specs.Internals.{Added}
+use Rattle.internals.specs.Internals.{Grown}
 use Rattle.table_sums.proofs.with_stage.Statement.{statement}
 use Rattle.table_sums.proofs.with_stage.Tie as tie
 
@@ -22,8 +22,8 @@ returns c =
     let units = c .before .before .before .before in
     let read = units .before .before .before .before in
     let sums = read .before .before .before .args .t1 in (
-      subst (λ more. Added (sums .units) more (units .added .result)) (read .before .demands-at .ensures) (units .added .ensures),
-      subst (λ more. Added (sums .rows) more (c .added2 .result)) (read .weights-at .ensures) (c .added2 .ensures),
+      subst (λ more. Grown (sums .units) more (units .added .result)) (read .before .demands-at .ensures) (units .added .ensures),
+      subst (λ more. Grown (sums .rows) more (c .added2 .result)) (read .weights-at .ensures) (c .added2 .ensures),
     )
 
 pub with-stage-spec : {M : Type 1} → statement M

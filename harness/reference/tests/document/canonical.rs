@@ -51,9 +51,9 @@ fn disguised(text: &str) -> String {
     let sections = records.chunk_by_mut(|one, next| one[..1] == next[..1]);
     sections.for_each(<[&str]>::reverse);
     let mut disguised = String::new();
-    for (place, record) in records.iter().enumerate() {
+    for (at, record) in records.iter().enumerate() {
         let (letter, fields) = record.split_once(' ').expect("a record has fields");
-        disguised += ["/", "# K 1 0/", "#/"][place % 3];
+        disguised += ["/", "# K 1 0/", "#/"][at % 3];
         disguised += letter;
         for field in fields.split(' ') {
             disguised += &format!(" {field:0>5}");

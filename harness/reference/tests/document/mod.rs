@@ -39,12 +39,12 @@ pub fn plan(text: &str) -> Plan {
 /// A table with this many jobs at stages 1 to 3 of type 1, then of type 2.
 pub fn table(counts: [u8; 6]) -> Table {
     let mut table = Table::EMPTY;
-    for (place, count) in counts.into_iter().enumerate() {
+    for (at, count) in counts.into_iter().enumerate() {
         for _ in 0..count {
             table.push(Job {
                 number: u32::from(table.count) + 1,
-                kind: place as u32 / 3 + 1,
-                stage: place as u32 % 3 + 1,
+                kind: at as u32 / 3 + 1,
+                stage: at as u32 % 3 + 1,
             });
         }
     }

@@ -26,7 +26,7 @@ use Rattle.plan_upstream_stage.specs.Due.{dueBy}
 use Rattle.plan_upstream.specs.CheckInternals.{stretchRank}
 use Rattle.plan_upstream.proofs.RowSearch.{fault-found}
 use Rattle.plan_upstream.proofs.LentStage.{demand-there, weight-there}
-use Rattle.plan_upstream.proofs.RowWalk.{dueTo, Walk, Next}
+use Rattle.plan_upstream.proofs.RowWalk.{dueTo, Walk, StageAtIndex}
 use Rattle.plan_upstream.proofs.RowWalk.{wrong-row, walk-starts, walk-ends, next-stage, next-due, walk-on}
 use Rattle.plan_upstream.proofs.rows.faulty_row.Statement.{statement}
 use Rattle.plan_upstream.proofs.rows.faulty_row.Tie as tie
@@ -88,7 +88,7 @@ module _ (c : tie.In-stages Inv-stages μ-stages Inv-rows μ-rows) where
   walk : Walk p (suc row) (suc i) due
   walk = subst (λ (n : ℕ). Walk p (suc row) n due) more (c .before .stages .inv)
 
-  next : Next p i
+  next : StageAtIndex p i
   next = next-stage p i (walk .within)
 
   inside : i < maxAllStages
