@@ -56,7 +56,7 @@ fn put_message(line: u32, answer: TextAnswer, part: &[u8], buffer: &mut [u8]) ->
     ensures { λ r. ⌜ (r ≡ length (messageWith line answer (now (part .entry)))) × (now (buffer .exit) ≡ overlaid (messageWith line answer (now (part .entry))) (now (buffer .entry))) ⌝ }
 {
     let mut n = put_text(b"line ", buffer, 0);
-    n += put_decimal(line, buffer, n);
+    n += put_decimal(line as u64, buffer, n);
     n += put_text(b": ", buffer, n);
     n += put_meaning(answer, buffer, n);
     n + put_shown(part, buffer, n)

@@ -32,7 +32,7 @@ fn put_replies(events: &[u8], frame: Frame, stages: &[u8], buffer: &mut [u8], st
         (r ≡ start + length out) × (now (buffer .exit) ≡ overlaidAt start out (now (buffer .entry)))) ⌝ }
 {
     let mut table = Table::empty();
-    let mut ordinal: u32 = 1;
+    let mut ordinal: u64 = 1;
     let mut put = start;
     let mut at = 0;
     while at < events.len() {
@@ -42,7 +42,7 @@ fn put_replies(events: &[u8], frame: Frame, stages: &[u8], buffer: &mut [u8], st
         match line {
             EventLine::Skipped => {}
             EventLine::Malformed => {
-                let active = table.list.count as u32;
+                let active = table.list.count as u64;
                 put += put_event_line(ordinal, MALFORMED, 0, active, buffer, put);
                 ordinal += 1;
             }
@@ -51,7 +51,7 @@ fn put_replies(events: &[u8], frame: Frame, stages: &[u8], buffer: &mut [u8], st
                 let outcome = before.handle(frame, stages, event);
                 let answer = outcome.answer;
                 let after = outcome.table;
-                let active = after.list.count as u32;
+                let active = after.list.count as u64;
                 let number = answer_number(answer);
                 let place = answer_place(answer);
                 put += put_event_line(ordinal, number, place, active, buffer, put);

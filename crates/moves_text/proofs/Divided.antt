@@ -1,6 +1,6 @@
 -- The input's two parts are those that the mark divides: a text is its lines put together, so by induction over them either a
 -- line is the mark, or it comes before both parts of what follows. And only these: the first mark stands where the plan ends.
-use Prim.Native.Nat.{ℕ, suc, _+_, _-_}
+use Prim.Native.Nat.{ℕ, suc, _+_}
 use native.Mathlib.Omega.{arith}
 use mathlib.Core.Bool.{Bool, true, false, cond, false≢true}
 use mathlib.Core.List.{List, [], _∷_, _++_, append-assoc, append-nil}
@@ -17,17 +17,17 @@ use Rattle.moves_text.specs.Quoted.{quoted}
 use Rattle.moves_text.specs.Division.{eventsMark, Divides, isE, isMark, lengthBefore, planLength, planPart, eventPart}
 
 -- bytes of one line
-abbrev Clean : List ℕ → Type 0
+abbrev pub Clean : List ℕ → Type 0
 Clean p = Each (λ (c : ℕ). c ≢ lineEnd) p
 
-abbrev ended : List ℕ → Line
+abbrev pub ended : List ℕ → Line
 ended p = record { bytes = p; ended = true }
 
 -- the first line of a text, and those after it
 pub lines-then : (p rest : List ℕ) → Clean p → linesOf (p ++ lineEnd ∷ rest) ≡ ended p ∷ linesOf rest
 lines-then p rest clean = ap linesIn (split-then lineEnd p rest clean) ∙ line-then p (splitBy lineEnd rest) (split-some lineEnd rest)
 
-lines-alone : (p : List ℕ) → Clean p → linesOf p ≡ lastLine p
+pub lines-alone : (p : List ℕ) → Clean p → linesOf p ≡ lastLine p
 lines-alone p clean = ap linesIn (split-alone lineEnd p clean)
 
 -- bytes are the mark's exactly when the test passes

@@ -111,7 +111,11 @@ put-then at done new buffer {offset} {n} {m} behind w put = (
 pub put-as : (at : ℕ) (buffer : List ℕ) {text same : List ℕ} {n : ℕ} {next : List ℕ} → text ≡ same → Put at text buffer n next → Put at same buffer n next
 put-as at buffer e put = (put .0 ∙ ap length e, put .1 ∙ ap (λ bs. overlaidAt at bs buffer) e)
 
--- the same of what is laid, where the first offset was cut to the buffer
+-- the same where the offset was cut to the buffer, of what is put and of what is laid
+pub put-from : (at : ℕ) (text buffer : List ℕ) {from n : ℕ} {next : List ℕ} → from ≡ min at (length buffer) → Put from text buffer n next
+    → Put at text buffer n next
+put-from at text buffer cut put = (put .0, put .1 ∙ ap (λ k. overlaidAt k text buffer) cut ∙ overlaid-within at text buffer)
+
 pub laid-from : (at : ℕ) (line buffer : List ℕ) {from end : ℕ} {now : List ℕ} → from ≡ min at (length buffer) → Laid from line buffer end now
     → Put at line buffer (end - from) now
 laid-from at line buffer cut w =

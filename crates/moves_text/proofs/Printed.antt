@@ -20,11 +20,11 @@ use Rattle.plan_text.specs.Reading.{reading}
 use Rattle.moves_text.specs.Division.{planPart, eventPart}
 use Rattle.moves_text.specs.EventLines.{countedIn, eventIn, eventsIn}
 use Rattle.moves_text.specs.OutputLines.{eventLine, aboutPlan, listAfterLine}
-use Rattle.moves_text.specs.Prints.{concatenated, EachMeans, tableAfter, lineFor, Answered, Prints}
-use Rattle.moves_text.specs.Output.{Reply, replyTo, repliesTo, printedFrom, output}
+use Rattle.moves_text.specs.Prints.{concatenated, EachMeans, tableAfter, lineFor, LinesAnswered, Answered, Prints}
+use Rattle.moves_text.specs.Output.{Reply, replyTo, repliesTo, printedFrom, toPrint, output}
 use Rattle.moves_text.proofs.Divided.{input-divided}
 use Rattle.moves_text.proofs.LineMeanings.{line-means}
-use Rattle.moves_text.proofs.Replies.{repliesIn, events-parts, list-parts, list-after, replies-parts, replies-length}
+use Rattle.moves_text.proofs.Replies.{events-parts, list-parts, list-after, replies-parts, replies-length}
 
 -- the lines of replies, with ordinals from n on
 abbrev replyLine : ℕ → Reply → List ℕ
@@ -81,23 +81,30 @@ each-means : (ls : List Line) → EachMeans ls (map eventIn ls)
 each-means [] = tt
 each-means (l ∷ ls) = (line-means l, each-means ls)
 
+-- the lines about a plan, and those of the replies to a text of event lines
+pub lines-answered : (plan events : List ℕ)
+    → LinesAnswered plan events (aboutPlan (reading plan) ++ toPrint (reading plan .plan) emptyList 1 events)
+lines-answered plan events =
+    let p = reading plan .plan in
+    let replies = repliesTo p emptyList (countedIn events) in
+    record {
+      meanings = map eventIn (linesOf events);
+      meant = each-means (linesOf events);
+      lines = linesFrom 1 replies;
+      printed = ap (λ out. aboutPlan (reading plan) ++ out) (lines-joined 1 replies);
+      one-each = lines-length 1 replies ∙ replies-length p emptyList (countedIn events);
+      each = λ s. rw (s .whole) (line-printed p (s .before) (s .item) (s .after));
+    }
+
 pub output-prints : (input : List ℕ) → Prints input (output input)
 unfolding output
 output-prints input = record { answered = answered; too-long = λ h. rw (lt-leb (length input) maxText h) refl }
   where
-    p : Plan
-    p = reading (planPart input) .plan
-
     answered : length input ≤ maxText → Answered input (output input)
     answered h =
         record {
           plan = planPart input;
           events = eventPart input;
           divided = input-divided input;
-          meanings = map eventIn (linesOf (eventPart input));
-          meant = each-means (linesOf (eventPart input));
-          lines = linesFrom 1 (repliesIn input);
-          printed = rw (le-leb (length input) maxText h) (ap (λ out. aboutPlan (reading (planPart input)) ++ out) (lines-joined 1 (repliesIn input)));
-          one-each = lines-length 1 (repliesIn input) ∙ replies-length p emptyList (countedIn (eventPart input));
-          each = λ s. rw (s .whole) (line-printed p (s .before) (s .item) (s .after));
+          answered = rw (le-leb (length input) maxText h) (lines-answered (planPart input) (eventPart input));
         }

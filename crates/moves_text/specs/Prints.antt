@@ -40,17 +40,22 @@ lineFor p before l =
     let a = answerTo p (tableAfter p before) l in
     eventLine (length before + 1) (a .0) (a .1) (tableAfter p (before ++ l ∷ []) .count)
 
--- an input of at most 65,536 bytes: the lines about its plan, and one for each counted event line, in order. A line means one thing (`meaning-unique`)
-pub record Answered (input out : List ℕ) : Type 0 where
-  pub plan : List ℕ
-  pub events : List ℕ
-  pub divided : Divides input plan events
+-- of a plan text and the text of event lines: the lines about the plan, and one for each counted event line, in order. A line means one
+-- thing (`meaning-unique`)
+pub record LinesAnswered (plan events out : List ℕ) : Type 0 where
   pub meanings : List EventLine
   pub meant : EachMeans (linesOf events) meanings
   pub lines : List (List ℕ)
   pub printed : out ≡ aboutPlan (reading plan) ++ concatenated lines
   pub one-each : length lines ≡ length (counted meanings)
   pub each : (s : Split (counted meanings)) → entry lines (length (s .before) + 1) [] ≡ lineFor (reading plan .plan) (s .before) (s .item)
+
+-- an input of at most 65,536 bytes: its two parts, answered
+pub record Answered (input out : List ℕ) : Type 0 where
+  pub plan : List ℕ
+  pub events : List ℕ
+  pub divided : Divides input plan events
+  pub answered : LinesAnswered plan events out
 
 -- what is printed of an input; of a longer one its refusal alone
 pub record Prints (input out : List ℕ) : Type 0 where

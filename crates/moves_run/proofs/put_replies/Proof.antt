@@ -25,7 +25,6 @@ use Rattle.moves_text.specs.Output.{replyTo}
 use Rattle.moves_text.specs.Buffer.{overlaidAt}
 use Rattle.moves_text.specs.declared.EventLine.{EventLine}
 use Rattle.moves_text.specs.declared.EventLine.the-variants.{Skipped, Malformed, Given}
-use Rattle.moves_text.proofs.Places.{active-few}
 use Rattle.moves_text.proofs.ReplySteps.{Replying, replying-start, counted-left, goes-past, here-short, goes-on, all-printed}
 use Rattle.moves_text.proofs.Overlays.{overlaid-at-length}
 use Rattle.moves_run.proofs.put_replies.Statement.{statement}
@@ -114,12 +113,12 @@ module _ (c : tie.After-event-of Inv-loop μ-loop) where
 -- where a malformed line is answered
 module _ (c : tie.After-put-event-line Inv-loop μ-loop) where
   abbrev unread : tie.After-event-of Inv-loop μ-loop
-  unread = c .before .before .before .before .before
+  unread = c .before .before .before .before
 
   malformed : Next unread (table (turn unread)) (c .put-event-line .result) (c .put-event-line .last .1 .1 .1 .1 .0)
   malformed =
-      goes unread Malformed none (c .before .before .before .enum-told2 .given .1) (λ ls. refl) (table (turn unread)) refl _ refl
-      (c .put-event-line .result) _ (c .put-event-line .ensures)
+      goes unread Malformed none (c .before .before .enum-told2 .given .1) (λ ls. refl) (table (turn unread)) refl _ refl
+      (c .put-event-line .result) _ (c .put-event-line .ensures .0)
 
 -- where an event is answered
 module _ (c : tie.After-handle Inv-loop μ-loop) where
@@ -137,7 +136,7 @@ module _ (c : tie.After-handle Inv-loop μ-loop) where
 
 module _ (c : tie.After-put-event-line2 Inv-loop μ-loop) where
   abbrev answering : tie.After-handle Inv-loop μ-loop
-  answering = c .before .before .before .before .before .before
+  answering = c .before .before .before .before .before
 
   abbrev t : tie.At-loop Inv-loop μ-loop
   t = turn (read answering)
@@ -153,7 +152,7 @@ module _ (c : tie.After-put-event-line2 Inv-loop μ-loop) where
       goes (read answering) (Given (event answering)) (some (event answering)) (answering .before .before .line .given .1) (λ ls. refl)
       (answering .handle .result .table .list) (after-told answering) _
       (λ i. eventLine (t .loop .ordinal) (number-told i) (place-told i) (after-told answering i .count)) (c .put-event-line2 .result) _
-      (c .put-event-line2 .ensures)
+      (c .put-event-line2 .ensures .0)
 
 empty-requires : tie.Need-empty-requires Inv-loop μ-loop
 empty-requires c κs = search needs
@@ -199,9 +198,6 @@ loop-again c =
 enum-told-2 : tie.Need-enum-told-2 Inv-loop μ-loop
 enum-told-2 c = search needs
 
-cast-active : tie.Need-cast-active Inv-loop μ-loop
-cast-active c = search needs
-
 put-event-line-requires : tie.Need-put-event-line-requires Inv-loop μ-loop
 put-event-line-requires c κs = search needs
 
@@ -222,12 +218,6 @@ enum-known-line c = search needs
 
 handle-requires : tie.Need-handle-requires Inv-loop μ-loop
 handle-requires c κs = search needs
-
-cast-active-2 : tie.Need-cast-active-2 Inv-loop μ-loop
-cast-active-2 c =
-    let m = c .before .before in
-    let k = turn (read m) in
-    omega (arith, ap (λ (l : JobList). l .count) (after-told m), active-few (plan k) (table k) (event m) (going k .few))
 
 answer-number-requires : tie.Need-answer-number-requires Inv-loop μ-loop
 answer-number-requires c κs = search needs
@@ -286,7 +276,6 @@ put-replies-spec =
     loop-less
     loop-again
     enum-told-2
-    cast-active
     put-event-line-requires
     add-put
     add-ordinal
@@ -294,7 +283,6 @@ put-replies-spec =
     loop-again-2
     enum-known-line
     handle-requires
-    cast-active-2
     answer-number-requires
     answer-place-requires
     put-event-line-requires-2

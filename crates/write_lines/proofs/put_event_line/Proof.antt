@@ -44,7 +44,7 @@ returns c =
     let v = field-then from _ buffer (a .number) tab (u) (number .put-field2 .ensures .0) in
     let w = field-then from _ buffer (a .place) tab (v) (place .put-field3 .ensures .0) in
     let x = field-then from _ buffer (a .active) lineEnd (w) (active .put-field4 .ensures .0) in
-    laid-from (a .at) (eventLine (a .ordinal) (a .number) (a .place) (a .active)) buffer (cut .at-most .ensures) (simp append-assoc at x)
+    (laid-from (a .at) (eventLine (a .ordinal) (a .number) (a .place) (a .active)) buffer (cut .at-most .ensures) (simp append-assoc at x), search needs)
 
 pub put-event-line-spec : {M : Type 1} → statement M
 put-event-line-spec =

@@ -1,4 +1,4 @@
--- The byte goes behind the digits, of which a number of 32 bits has at most ten.
+-- The byte goes behind the digits, of which a number of 64 bits has at most twenty.
 use Prim.Native.Nat.{ℕ, _+_, _≤_}
 use native.Mathlib.Omega.{arith}
 use mathlib.Core.List.{[], _∷_}
@@ -16,8 +16,8 @@ module _ (c : tie.After-put-decimal) where
   abbrev n : ℕ
   n = c .before .before .before .args .n
 
-  few : c .put-decimal .result ≤ 10
-  few = omega (arith, c .put-decimal .ensures .0, decimal-short 10 n (omega arith) (omega (arith, c .before .before .before .good)))
+  few : c .put-decimal .result ≤ 20
+  few = omega (arith, c .put-decimal .ensures .0, decimal-short 20 n (omega arith) (omega (arith, c .before .before .before .good)))
 
 put-decimal-requires : tie.Need-put-decimal-requires
 put-decimal-requires c κs = search needs
