@@ -15,6 +15,7 @@ pub mod FirstFailure
 pub mod AcceptedText
 pub mod SamePlan
 pub mod OneReading
+pub mod NthLine
 -- What serves the proofs of code: a line's questions in groups, numbers cut to what entries hold, and the tags of an answer.
 pub mod ReaderSteps
 pub mod TextAnswerTags

@@ -4,6 +4,7 @@
 pub mod Lines
 pub mod LineReading
 pub mod TextParts
+pub mod NthLine
 pub mod Records
 pub mod Meaning
 pub mod TextQuestions

@@ -1,8 +1,6 @@
 -- `answer_lines` is safe and ends: a walk of its MIR, by hand, with a loop. In each turn the reader is lent to `next` and comes back at its next offset
--- (`LentReader.antt`); then either the text is over and the function returns, or less of it is left, the line's event is read (`Passed.antt`), the table
--- is lent to `apply`, with the stages, and both come back (`LentTable.antt`), and line, answer and table are passed to `tell`.
-mod LentReader
-mod LentTable
+-- (`LentReader.antt` of `read_lines`); then either the text is over and the function returns, or less of it is left, the line's event is read (`Passed.antt`), the table
+-- is lent to `apply`, with the stages, and both come back (`LentTable.antt` of `table_lends`), and line, answer and table are passed to `tell`.
 mod Passed
 use mathlib.Core.Path.{_≡_, refl, sym, ap, subst}
 use Prim.Native.Nat.{ℕ, _<_, _-_}
@@ -88,12 +86,12 @@ use Rattle.test_host.proofs.answer_lines.Key.{name as #answer-lines}
 use Rattle.test_host.proofs.answer_lines as f
 use Rattle.test_host.proofs.answer_lines.Statement as stated
 use Rattle.test_host.proofs.answer_lines.Code as code
-use Rattle.test_host.proofs.answer_lines.Proof.LentReader.{α, B, Lies, LineOwn, Said, v, Own, New, Next, nearer, lies-in, lies-room}
-use Rattle.test_host.proofs.answer_lines.Proof.LentReader.{to-new, goes-new, new-gives, to-next, Kept, goes-next, comes}
-use Rattle.table_lent.proofs.MachineValues.{table-val, frame-val, IsTable, IsFrame}
-use Rattle.test_host.proofs.answer_lines.Proof.LentTable.{at-table, at-event, at-answer}
-use Rattle.test_host.proofs.answer_lines.Proof.LentTable.{Empty, Apply, to-empty, goes-empty, empty-gives, to-apply, TableKept, goes-apply, apply-gives}
-use Rattle.test_host.proofs.answer_lines.Proof.Passed.{EventIn, Tell, line-twice, to-event, goes-event, event-gives, to-tell, goes-tell, tell-gives}
+use Rattle.read_lines.proofs.LentReader.{α, B, Lies, LineOwn, Said, New, Next, nearer, lies-in, lies-room}
+use Rattle.read_lines.proofs.LentReader.{to-new, goes-new, new-gives, to-next, Kept, goes-next, comes}
+use Rattle.table_lent.proofs.MachineValues.{table-val, frame-val, bytes-val as v, BytesOwn as Own, IsTable, IsFrame, at-table, at-event, at-answer}
+use Rattle.table_lends.proofs.LentTable.{Apply, to-apply, TableKept, goes-apply, Said as TableSaid, apply-gives}
+use Rattle.test_host.proofs.answer_lines.Proof.Passed.{Empty, EventIn, Tell, to-empty, goes-empty, empty-gives}
+use Rattle.test_host.proofs.answer_lines.Proof.Passed.{line-twice, to-event, goes-event, event-gives, to-tell, goes-tell, tell-gives}
 
 -- of the parameters nothing need be had at exit
 abbrev frame-slot : Slot 2
@@ -295,7 +293,7 @@ module _ {M : Type 1} (𝓤 : URA M) (H : Heap 𝓤) (A : Atoms 𝓤) (W : Given
           calls-at ! fm (Apply 𝓤 H A at-mem run) known-apply (lending-table i e ν δ)
           (and-then ! (load ! (from ! (stop !)) (look ! 13 refl)) (and-then ! (load ! (from ! (stop !)) (look ! 39 refl))
           (and-then ! (load ! (from ! (stop !)) (look ! 37 refl)) (and-then ! (load ! (from ! (stop !)) (look ! 29 refl)) (no-more !))))) (λ w.
-          use2 W (later (some (λ (a : Answer). some (λ (t : Table). given (Is N.the-row a (w ∷ []) × IsTable t) (table-at t ⊛ Lent)))))
+          use2 W (later (some (λ (a : Answer). some (λ (t : Table). given (TableSaid 𝓤 H A W at-mem run κ′ q′ l₄ (i .1 .0) fr st e w a t) (table-at t ⊛ Lent)))))
           (apply-gives 𝓤 H A W at-mem run κ′ q′ l₄ (i .1 .0) fr st e ν δ w) $ await ! tt $ pick ! (λ a. pick ! (λ t. learn ! (λ is. split ! $
           -- [_4; the stages; the reader's token; the reader in memory; what the bytes own; _19 at 5; …]
           land ! (from ! (stop !)) (init ! 27 refl (EL.lawful N.the-type N′.the-laws 𝓤 H A W tt .typed a _ (is .0) .0)) $
@@ -303,10 +301,10 @@ module _ {M : Type 1} (𝓤 : URA M) (H : Heap 𝓤) (A : Atoms 𝓤) (W : Given
           assigns ! (of-opd ! (load ! (from ! (fld ! refl (stop !))) (look-in ! 31 (sub ! 0 refl (whole !))))) (from ! (stop !))
           (init ! 9 refl (shr-slice-lawful 𝓤 H A W (named 1) κ u8 .typed (l .bytes) _ is-bytes .0)) $
           assigns ! (of-opd ! (load ! (from ! (fld ! refl (stop !))) (look-in ! 31 (sub ! 1 refl (whole !))))) (from ! (stop !)) (init ! 7 refl (tt, tt)) $
-          assigns ! (of-opd ! (load ! (from ! (stop !)) (look ! 0 refl))) (from ! (stop !)) (init ! 5 refl (LL.lawful T.the-type T′.the-laws 𝓤 H A W .typed t _ (is .1) .0)) $
+          assigns ! (of-opd ! (load ! (from ! (stop !)) (look ! 0 refl))) (from ! (stop !)) (init ! 5 refl (LL.lawful T.the-type T′.the-laws 𝓤 H A W .typed t _ (is .1 .0) .0)) $
           -- line, answer and table go to `tell`
           move ! (2 ∷ 4 ∷ []) $ use2 W (raw (Tell 𝓤 H A at-mem run .pre (to-tell 𝓤 H A W at-mem run κ q l a t)))
-          (goes-tell 𝓤 H A W at-mem run κ q l a t (at-answer a w (is .0)) (is .1)) $
+          (goes-tell 𝓤 H A W at-mem run κ q l a t (at-answer a w (is .0)) (is .1 .0)) $
           calls-at-last ! fm (Tell 𝓤 H A at-mem run) known-tell (to-tell 𝓤 H A W at-mem run κ q l a t)
           (and-then ! (load ! (from ! (stop !)) (look ! 8 refl)) (and-then ! (load ! (from ! (stop !)) (look ! 6 refl))
           (and-then ! (load ! (from ! (stop !)) (look ! 26 refl)) (and-then ! (load ! (from ! (stop !)) (look ! 4 refl)) (no-more !))))) (λ z.
@@ -314,7 +312,7 @@ module _ {M : Type 1} (𝓤 : URA M) (H : Heap 𝓤) (A : Atoms 𝓤) (W : Given
           -- [the reader's token; _4; the stages; the reader in memory; _19 at 4; …]
           land-last ! (from ! (stop !)) (init ! 10 refl (subst (λ (y : Val). Holds (hasTy tyUnit y) × WT y) (sym e′) (tt, tt))) $
           forget ! 4 refl $ forget ! 6 refl $ forget ! 8 refl $ forget ! 10 refl $ forget ! 12 refl $ forget ! 14 refl $ forget ! 16 refl $
-          forget ! 26 refl $ forget ! 28 refl $ forget ! 30 refl $ move ! (3 ∷ 0 ∷ 2 ∷ 1 ∷ []) $ again ! Nearer At i (on (i .0), (t, is .1)) less)))))))))))
+          forget ! 26 refl $ forget ! 28 refl $ forget ! 30 refl $ move ! (3 ∷ 0 ∷ 2 ∷ 1 ∷ []) $ again ! Nearer At i (on (i .0), (t, is .1 .0)) less)))))))))))
 
       turns : (i : Turn) → Sq W (At i) (runs C Λ En code.Mir.turn-1 (anyQ (Turned i)))
       unfolding afterTurn

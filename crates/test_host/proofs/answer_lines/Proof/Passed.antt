@@ -1,4 +1,5 @@
--- A line's bytes are passed on twice, to `event_in` and to `tell`, each time with 'a's token, which comes back.
+-- The calls of covered functions. A line's bytes are passed on twice, to `event_in` and to `tell`, each time with 'a's token, which comes back.
+--     goes-empty, empty-gives   what `empty` asks, and what it gives
 --     line-twice                what a line owns of its bytes, twice
 --     goes-event, event-gives   what `event_in` asks, and what it gives
 --     goes-tell, tell-gives     what `tell` asks, and what it gives
@@ -15,8 +16,8 @@ use prog.Memory.{Memory}
 use prog.Routine.{Routine}
 use prog.Wp.{Heap}
 use ghost.Atoms.{Atoms, sem}
-use contract.Monad.{Fun}
-use types.Kit.{Given, ‵, raw, _⊛_, given, some, later, ⋆, _$_, _∵_, !, qed, by, move, keep, use1, split, join, pick, learn, check, fsplit, fjoin, feqL, frame}
+use contract.Monad.{Fun, fact}
+use types.Kit.{Given, ‵, raw, _⊛_, some, later, ⋆, _$_, _∵_, !, qed, by, move, keep, use1, split, join, pick, check, fjoin, feqL, frame}
 use types.Kit.{await, updating, now as at-once, show, done}
 use denote.RattleType.{owns}
 use denote.Laws.{Is, shows}
@@ -27,7 +28,6 @@ use denote.Slice.{shr-slice-copy}
 use denote.Steps.{only, owned, peeks, nothing}
 use denote.Struct.Laws as LL
 use denote.Enum.Laws as EL
-use denote.Struct.Rest.{all-own, own-open}
 use denote.Triple.Statement.{Contract}
 use denote.Triple.Clauses.{ensured}
 use denote.Triple.Spec.{tripleOf}
@@ -35,24 +35,43 @@ use Rattle.events.specs.declared.Event.{Event}
 use Rattle.events.specs.declared.Answer.{Answer}
 use Rattle.admission.specs.declared.Table.{Table}
 use Rattle.read_lines.specs.declared.TextLine.{TextLine}
-use Rattle.read_lines.proofs.TextLine as R
 use Rattle.read_lines.proofs.TextLine.Laws as R′
 use Rattle.events.proofs.Event as E
 use Rattle.events.proofs.Answer as N
 use Rattle.events.proofs.Answer.Laws as N′
 use Rattle.admission.proofs.Table as T
 use Rattle.admission.proofs.Table.Laws as T′
+use Rattle.admission.proofs.Table.empty as empty
 use Rattle.test_host.proofs.event_in as event-in
 use Rattle.test_host.proofs.tell as tell
-use Rattle.test_host.proofs.answer_lines.Proof.LentReader.{α, LineOwn, v, Own}
-use Rattle.table_lent.proofs.MachineValues.{table-val, answer-val, IsTable, IsAnswer}
+use Rattle.read_lines.proofs.LentReader.{LineOwn, line-bytes}
+use Rattle.table_lent.proofs.MachineValues.{table-val, answer-val, bytes-val as v, BytesOwn as Own, IsTable, IsAnswer}
 
 module _ {M : Type 1} (𝓤 : URA M) (H : Heap 𝓤) (A : Atoms 𝓤) (at-mem : Memory → SProp 𝓤) (run : Routine → Fun 𝓤) where
+  abbrev pub Empty : Contract 𝓤
+  Empty = tripleOf 𝓤 H A empty.signature (empty.spec 𝓤 H A at-mem run)
+
   abbrev pub EventIn : Contract 𝓤
   EventIn = tripleOf 𝓤 H A event-in.signature (event-in.spec 𝓤 H A at-mem run)
 
   abbrev pub Tell : Contract 𝓤
   Tell = tripleOf 𝓤 H A tell.signature (tell.spec 𝓤 H A at-mem run)
+
+  abbrev pub to-empty : Empty .Ghost
+  to-empty = ((tt, tt, tt, tt, tt), tt)
+
+-- ---- the call of `empty`
+module _ {M : Type 1} (𝓤 : URA M) (H : Heap 𝓤) (A : Atoms 𝓤) (W : Given 𝓤 H A) (at-mem : Memory → SProp 𝓤) (run : Routine → Fun 𝓤) where
+  pub goes-empty : ent 𝓤 (emp 𝓤) (Empty 𝓤 H A at-mem run .pre (to-empty 𝓤 H A at-mem run))
+  goes-empty = qed W [] ∵ nothing ! $ nothing ! $ join ! $ frame ! $ done !
+
+  pub empty-gives : (u : Val) → ent 𝓤 (Empty 𝓤 H A at-mem run .post (to-empty 𝓤 H A at-mem run) u) (H .⇛ (ex 𝓤 (λ (t : Table). fact 𝓤 (Is T.the-row t (u ∷ [])))))
+  empty-gives u =
+      qed W (raw (Empty 𝓤 H A at-mem run .post (to-empty 𝓤 H A at-mem run) u) ∷ []) ∵ updating ! $
+      use1 W (later (some (λ (t : Table). (‵ ftrue ⊛ ‵ (T.the-row .own t (u ∷ [])))
+      ⊛ raw (ensured 𝓤 H A empty.ended (empty.clauses 𝓤 H A at-mem run) tt tt tt t)))) (id⊢ 𝓤 _) $ await ! tt $ pick ! (λ t. split ! $ split ! $ move ! (1 ∷ []) $
+      peeks ! T.the-row (Is T.the-row) (shows 𝓤 H A T.the-row) t (u ∷ []) (λ is. at-once ! $ show ! (λ (y : Table). fact 𝓤 (Is T.the-row y (u ∷ []))) t $
+      check ! is $ keep ! [] $ done !))
 
 module _ {M : Type 1} (𝓤 : URA M) (H : Heap 𝓤) (A : Atoms 𝓤) (W : Given 𝓤 H A) (at-mem : Memory → SProp 𝓤) (run : Routine → Fun 𝓤)
     (κ : Lft) (q : Share) (l : TextLine) where
@@ -62,10 +81,8 @@ module _ {M : Type 1} (𝓤 : URA M) (H : Heap 𝓤) (A : Atoms 𝓤) (W : Given
 
   pub line-twice : ent 𝓤 (sem 𝓤 H A (LineOwn κ l (R′.lowered l))) (sep 𝓤 (sem 𝓤 H A Bytes) (sem 𝓤 H A Bytes))
   line-twice =
-      qed W (‵ (LineOwn κ l (R′.lowered l)) ∷ []) ∵
-      use1 W (given (R′.lowered l ∷ [] ≡ R′.lowered l ∷ []) (‵ (all-own (R.the-type (α κ) .parts) (R′.the-laws (α κ)) (l .bytes, (l .ended, (l .over, tt))))))
-      (own-open 𝓤 H A W (R.the-type (α κ)) (R′.the-laws (α κ)) (l .bytes, (l .ended, (l .over, tt))) (R′.lowered l)) $ learn ! (λ _. fsplit ! $
-      use1 W (‵ Bytes ⊛ ‵ Bytes) (shr-slice-copy 𝓤 H A W (named 0) κ u8 .twice (l .bytes) (v (l .bytes) ∷ [])) $ split ! $ keep ! (0 ∷ 1 ∷ []) $ done !)
+      qed W (‵ (LineOwn κ l (R′.lowered l)) ∷ []) ∵ use1 W (‵ Bytes) (line-bytes 𝓤 H A W at-mem run κ q l) $
+      use1 W (‵ Bytes ⊛ ‵ Bytes) (shr-slice-copy 𝓤 H A W (named 0) κ u8 .twice (l .bytes) (v (l .bytes) ∷ [])) $ split ! $ done !
 
   -- the token and the bytes, beside what the other parameters own
   asks : (others : Fml) → ent 𝓤 (⋆ 𝓤 H A (‵ others ∷ ‵ (flft κ q) ∷ ‵ Bytes ∷ []))

@@ -3,8 +3,9 @@
 --     lies-in, lies-room   the local's cell with what the reader owns is the reader in memory, which can be lent; and a reader in memory is room
 --     goes-new, new-gives  what `new` asks, and what it gives
 --     goes-next, comes     the reader in memory and 'a's token give what `next` asks, and what its lender keeps; and back, with the line
+--     line-bytes           what a line owns of its bytes
 --     nearer               where a line was read, less of the text is left
-use mathlib.Core.Path.{_≡_, refl, sym, ap, _∙_}
+use mathlib.Core.Path.{_≡_, refl, sym, ap, subst, _∙_}
 use Prim.Native.Nat.{ℕ, _<_, _-_}
 use mathlib.Core.Bool.{Bool, true, false, not}
 use mathlib.Core.List.{List, [], _∷_}
@@ -22,7 +23,7 @@ use prog.Wp.{Heap}
 use ghost.Atoms.{Atoms, sem}
 use contract.BorrowLft.{meet-⊑-right}
 use contract.Monad.{Fun, fact}
-use types.Kit.{Given, ‵, raw, _⊛_, some, later, ⋆, _$_, _∵_, !, qed, move, keep, use1, use2, use3, split, join, pick, rewrite, check, fsplit, fjoin, fpick, fpack}
+use types.Kit.{Given, ‵, raw, _⊛_, given, some, later, ⋆, _$_, _∵_, !, qed, move, keep, use1, use2, use3, split, join, pick, learn, rewrite, check, fsplit, fjoin, fpick, fpack}
 use types.Kit.{frame, await, updating, now as at-once, show, done}
 use types.SemTy.{Body}
 use types.Tokens.{lft-new}
@@ -36,19 +37,21 @@ use denote.Lend.{lends-ref, ref-back}
 use denote.Slice.{sliceVal, ShrSlice}
 use denote.Steps.{nothing, heard}
 use denote.Struct.Laws as LL
+use denote.Struct.Rest.{all-own, own-open}
 use denote.Struct.Steps.{spelt}
 use denote.Triple.Statement.{Contract}
 use denote.Triple.Clauses.{ensured, lasts}
 use denote.Triple.Spec.{tripleOf}
-use Rattle.read_lines.specs.LineReads.{Read, Reads, readOf, readNext, readOn, atStart}
+use Rattle.read_lines.specs.LineReads.{Read, Reads, readOn, atStart}
 use Rattle.read_lines.proofs.ToEnd.{less-left}
 use Rattle.read_lines.specs.declared.LineReader.{LineReader}
 use Rattle.read_lines.specs.declared.TextLine.{TextLine}
 use Rattle.read_lines.proofs.LineReader as D
 use Rattle.read_lines.proofs.LineReader.Laws as D′
 use Rattle.read_lines.proofs.TextLine as R
+use Rattle.read_lines.proofs.TextLine.Laws as R′
 use Rattle.read_lines.proofs.LineReader.new as new
 use Rattle.read_lines.proofs.LineReader.next as next
 
 -- 'a, as `next`'s signature names it
 abbrev pub α : Lft → NamedLft
@@ -68,7 +71,7 @@ LineOwn κ l u = R.the-row (α κ) .own l (u ∷ [])
 
 -- what `next` says of the line that it read with the reader d
 abbrev pub Said : LineReader → TextLine → Type 0
-Said d l = readOf l ≡ readNext d
+Said d l = Reads d l (readOn d)
 
 -- the machine value of a text, and what it owns
 abbrev pub v : RefT (List ℕ) → Val
@@ -79,7 +82,7 @@ Own κ s = ShrSlice (named 0) κ u8 .own s (v s ∷ [])
 
 -- a line was read, so less of the text is left
 pub nearer : (d : LineReader) (l : TextLine) → Said d l → Holds (not (l .over)) → length (now (d .text)) - readOn d .at < length (now (d .text)) - d .at
-nearer d l e more = less-left d (sym (ap (λ (r : Read). r .over) e) ∙ is-false (l .over) more)
+nearer d l e more = less-left d (sym (ap (λ (r : Read). r .over) (e .said)) ∙ is-false (l .over) more)
   where
     is-false : (t : Bool) → Holds (not t) → t ≡ false
     is-false true z = absurd z
@@ -109,6 +112,13 @@ module _ {M : Type 1} (𝓤 : URA M) (H : Heap 𝓤) (A : Atoms 𝓤) (W : Given
       spelt ! (B κ) (Is (B κ)) (shows 𝓤 H A (B κ)) (LL.vals (D.the-type (α κ)) (D′.the-laws (α κ))) (LL.tells (D.the-type (α κ)) (D′.the-laws (α κ))) fullShare d us b o $
       use1 W (‵ (fat fullShare (D′.mir erased) b o (D′.lowered d))) (W .laws .raw-at fullShare (D′.mir erased) b o (D′.lowered d)) $
       use1 W (‵ (froom (D′.mir erased) b o)) (W .laws .at-room (D′.mir erased) b o (D′.lowered d)) $ keep ! (0 ∷ []) $ done !)
+
+  -- ---- the bytes of a line
+  pub line-bytes : (l : TextLine) → ent 𝓤 (sem 𝓤 H A (LineOwn κ l (R′.lowered l))) (sem 𝓤 H A (Own κ (l .bytes)))
+  line-bytes l =
+      qed W (‵ (LineOwn κ l (R′.lowered l)) ∷ []) ∵
+      use1 W (given (R′.lowered l ∷ [] ≡ R′.lowered l ∷ []) (‵ (all-own (R.the-type (α κ) .parts) (R′.the-laws (α κ)) (l .bytes, (l .ended, (l .over, tt))))))
+      (own-open 𝓤 H A W (R.the-type (α κ)) (R′.the-laws (α κ)) (l .bytes, (l .ended, (l .over, tt))) (R′.lowered l)) $ learn ! (λ _. fsplit ! $ keep ! (0 ∷ []) $ done !)
 
   -- ---- the call of `new`
   module _ (s : RefT (List ℕ)) where
@@ -188,4 +198,4 @@ module _ {M : Type 1} (𝓤 : URA M) (H : Heap 𝓤) (A : Atoms 𝓤) (W : Given
         move ! (1 ∷ 3 ∷ []) $ use2 W (‵ (flft κ q)) (W .lfts .lft-join κ q) $
         -- ['a's token; that the meet is dead; the lender's right; …; what the line owns; the last reader; …]
         move ! (1 ∷ 2 ∷ 5 ∷ []) $ use3 W (later (‵ (Lies κ b o (readOn d)))) (ref-back 𝓤 H A W (B κ) (ν ∷ κ) γ (readOn d) b o) $ await ! tt $
-        at-once ! $ show ! (Came u) l $ check ! (e .said) $ keep ! (3 ∷ 0 ∷ 1 ∷ []) $ done !)))
+        at-once ! $ show ! (Came u) l $ check ! (subst (Reads d l) (e .moved) e) $ keep ! (3 ∷ 0 ∷ 1 ∷ []) $ done !)))

@@ -1,0 +1,2 @@
+-- A table lent from a local to `apply`.
+pub mod LentTable
