@@ -17,7 +17,7 @@ pub fn drain(plan: &Plan, table: &mut Table, budget: u32) -> Drained {
         Ok(usage) => usage,
         Err(refusal) => {
             return Drained {
-                number: refusal.number,
+                number: refusal.answer.number,
                 moves: 0,
             }
         }

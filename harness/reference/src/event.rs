@@ -11,6 +11,13 @@ pub struct Answer {
     pub place: u32,
 }
 
+/// An answer that is not 0; `excess` is 0 except for 19: by how much the row would be exceeded.
+#[derive(Clone, Copy, Debug, PartialEq, Eq)]
+pub struct Refusal {
+    pub answer: Answer,
+    pub excess: u16,
+}
+
 #[derive(Clone, Copy, Debug, PartialEq, Eq)]
 pub enum Event {
     Load { job: u32, kind: u32 },
@@ -21,11 +28,16 @@ pub enum Event {
 
 impl Event {
     pub fn apply(self, plan: &Plan, table: &mut Table) -> Answer {
+        answer(self.attempt(plan, table))
+    }
+
+    /// Made if it is admitted; a refusal changes nothing.
+    pub fn attempt(self, plan: &Plan, table: &mut Table) -> Result<(), Refusal> {
         match self {
-            Event::Load { job, kind } => load(plan, table, job, kind),
-            Event::Advance { job } => advance(plan, table, job),
-            Event::Unload { job } => unload(plan, table, job),
-            Event::Pull { job } => pull(plan, table, job),
+            Event::Load { job, kind } => try_load(plan, table, job, kind),
+            Event::Advance { job } => try_advance(plan, table, job),
+            Event::Unload { job } => try_unload(plan, table, job),
+            Event::Pull { job } => try_pull(plan, table, job),
         }
     }
 }
@@ -46,21 +58,26 @@ pub fn pull(plan: &Plan, table: &mut Table, job: u32) -> Answer {
     answer(try_pull(plan, table, job))
 }
 
-fn answer(outcome: Result<(), Answer>) -> Answer {
+fn answer(outcome: Result<(), Refusal>) -> Answer {
     match outcome {
         Ok(()) => Answer {
             number: 0,
             place: 0,
         },
-        Err(refusal) => refusal,
+        Err(refusal) => refusal.answer,
     }
 }
 
-fn refusal(number: u32) -> Answer {
-    Answer { number, place: 0 }
+fn refusal(number: u32) -> Refusal {
+    refusal_at(number, 0, 0)
 }
 
-fn try_load(plan: &Plan, table: &mut Table, number: u32, kind: u32) -> Result<(), Answer> {
+fn refusal_at(number: u32, place: u32, excess: u16) -> Refusal {
+    let answer = Answer { number, place };
+    Refusal { answer, excess }
+}
+
+fn try_load(plan: &Plan, table: &mut Table, number: u32, kind: u32) -> Result<(), Refusal> {
     let mut usage = ask_agreement(plan, table)?;
     if find(table, number)?.is_some() {
         return Err(refusal(14));
@@ -80,26 +97,26 @@ fn try_load(plan: &Plan, table: &mut Table, number: u32, kind: u32) -> Result<()
     Ok(())
 }
 
-fn try_advance(plan: &Plan, table: &mut Table, number: u32) -> Result<(), Answer> {
+fn try_advance(plan: &Plan, table: &mut Table, number: u32) -> Result<(), Refusal> {
     let (mut usage, position) = ask_active(plan, table, number)?;
     advance_at(plan, table, &mut usage, position)
 }
 
-fn try_unload(plan: &Plan, table: &mut Table, number: u32) -> Result<(), Answer> {
+fn try_unload(plan: &Plan, table: &mut Table, number: u32) -> Result<(), Refusal> {
     let (mut usage, position) = ask_active(plan, table, number)?;
     unload_at(plan, table, &mut usage, position)
 }
 
 /// A job leaves from whichever stage it has, so question 17 is not asked. It only gives back, so
 /// questions 18 and 19 cannot fail.
-fn try_pull(plan: &Plan, table: &mut Table, number: u32) -> Result<(), Answer> {
+fn try_pull(plan: &Plan, table: &mut Table, number: u32) -> Result<(), Refusal> {
     let (_, position) = ask_active(plan, table, number)?;
     table.remove(position);
     Ok(())
 }
 
 /// Questions 11 and 12.
-pub(crate) fn ask_agreement(plan: &Plan, table: &Table) -> Result<Usage, Answer> {
+pub(crate) fn ask_agreement(plan: &Plan, table: &Table) -> Result<Usage, Refusal> {
     if !plan.is_sound() {
         return Err(refusal(11));
     }
@@ -108,14 +125,14 @@ pub(crate) fn ask_agreement(plan: &Plan, table: &Table) -> Result<Usage, Answer>
 
 /// Questions 11 to 14 of an event whose job must be active; then what the table uses and where
 /// the job stands.
-fn ask_active(plan: &Plan, table: &Table, number: u32) -> Result<(Usage, usize), Answer> {
+fn ask_active(plan: &Plan, table: &Table, number: u32) -> Result<(Usage, usize), Refusal> {
     let usage = ask_agreement(plan, table)?;
     let position = find(table, number)?.ok_or(refusal(14))?;
     Ok((usage, position))
 }
 
 /// Question 13; then where the job stands, if it is active.
-fn find(table: &Table, number: u32) -> Result<Option<usize>, Answer> {
+fn find(table: &Table, number: u32) -> Result<Option<usize>, Refusal> {
     if !(1..=MAX_NUMBER).contains(&number) {
         return Err(refusal(13));
     }
@@ -129,7 +146,7 @@ pub(crate) fn advance_at(
     table: &mut Table,
     usage: &mut Usage,
     position: usize,
-) -> Result<(), Answer> {
+) -> Result<(), Refusal> {
     let job = table.jobs[position];
     let old = plan.stage_index(job.kind, job.stage);
     let new = plan.stage_index(job.kind, job.stage + 1);
@@ -152,7 +169,7 @@ pub(crate) fn unload_at(
     table: &mut Table,
     usage: &mut Usage,
     position: usize,
-) -> Result<(), Answer> {
+) -> Result<(), Refusal> {
     let job = table.jobs[position];
     if plan.stage_index(job.kind, job.stage + 1).is_some() {
         return Err(refusal(17));
@@ -165,15 +182,12 @@ pub(crate) fn unload_at(
 
 /// Questions 18 and 19 of what would be used afterwards: 18 names the lowest resource exceeded, 19
 /// the row exceeded by the most.
-fn ask_limits(plan: &Plan, after: &Usage) -> Result<(), Answer> {
+fn ask_limits(plan: &Plan, after: &Usage) -> Result<(), Refusal> {
     if let Some(place) = after.exceeded(plan) {
-        return Err(Answer { number: 18, place });
+        return Err(refusal_at(18, place, 0));
     }
     match after.broken(plan) {
-        Some(broken) => Err(Answer {
-            number: 19,
-            place: broken.row,
-        }),
+        Some(broken) => Err(refusal_at(19, broken.row, broken.excess)),
         None => Ok(()),
     }
 }

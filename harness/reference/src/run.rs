@@ -3,29 +3,30 @@
 
 use crate::event::{Answer, Event};
 use crate::table::Table;
-use crate::text::{number, read_plan, MAX_TEXT};
+use crate::text::{number, read_plan, Reading, MAX_TEXT};
 use crate::upstream::check;
 use std::fmt::Display;
 use std::io::Write;
 
 /// The bytes printed for an input.
 pub fn run(input: &[u8]) -> Vec<u8> {
-    let mut output = Vec::new();
     if input.len() > MAX_TEXT {
+        let mut output = Vec::new();
         print(&mut output, "P", &[1, 0]);
         return output;
     }
     let (text, events) = split(input);
+    answers(text, events)
+}
+
+/// The bytes printed for a plan text and event lines, however long these are.
+pub fn answers(text: &[u8], events: &[u8]) -> Vec<u8> {
+    let mut output = Vec::new();
     let reading = read_plan(text);
+    print_head(&mut output, &reading);
     let plan = reading.plan;
-    print(&mut output, "P", &[reading.number, reading.line]);
-    if reading.number == 0 {
-        let checked = check(&plan);
-        let numbers = [checked.number, checked.first, checked.second];
-        print(&mut output, "Q", &numbers);
-    }
     let mut table = Table::EMPTY;
-    let mut ordinal = 0u32;
+    let mut ordinal = 0u64;
     for line in events.split_inclusive(|&byte| byte == b'\n') {
         if is_skipped(line) {
             continue;
@@ -34,10 +35,7 @@ pub fn run(input: &[u8]) -> Vec<u8> {
         // After a refused plan the plan is empty, not sound: a well-formed event gets 11.
         let answer = match read_event(line) {
             Some(event) => event.apply(&plan, &mut table),
-            None => Answer {
-                number: 41,
-                place: 0,
-            },
+            None => MALFORMED,
         };
         let numbers = [answer.number, answer.place, u32::from(table.count)];
         print(&mut output, ordinal, &numbers);
@@ -45,8 +43,24 @@ pub fn run(input: &[u8]) -> Vec<u8> {
     output
 }
 
+/// The answer to a line of another form, or without its LF.
+pub const MALFORMED: Answer = Answer {
+    number: 41,
+    place: 0,
+};
+
+/// The lines about the plan: `P`, and `Q` if it was accepted.
+pub fn print_head(output: &mut Vec<u8>, reading: &Reading<'_>) {
+    print(output, "P", &[reading.number, reading.line]);
+    if reading.number == 0 {
+        let checked = check(&reading.plan);
+        let numbers = [checked.number, checked.first, checked.second];
+        print(output, "Q", &numbers);
+    }
+}
+
 /// The plan text and the event lines: before and after the first line that is `E` and its LF.
-fn split(input: &[u8]) -> (&[u8], &[u8]) {
+pub fn split(input: &[u8]) -> (&[u8], &[u8]) {
     let mut start = 0;
     for line in input.split_inclusive(|&byte| byte == b'\n') {
         let end = start + line.len();
@@ -59,12 +73,12 @@ fn split(input: &[u8]) -> (&[u8], &[u8]) {
 }
 
 /// Only lines with their LF are skipped; their other bytes are not asked.
-fn is_skipped(line: &[u8]) -> bool {
+pub fn is_skipped(line: &[u8]) -> bool {
     line == b"\n" || line.starts_with(b"#") && line.ends_with(b"\n")
 }
 
 /// The event of a line with its LF, or none if it has another form.
-fn read_event(line: &[u8]) -> Option<Event> {
+pub fn read_event(line: &[u8]) -> Option<Event> {
     let mut parts = line.strip_suffix(b"\n")?.split(|&byte| byte == b'\t');
     let letter = parts.next()?;
     let job = number(parts.next()?)?;
@@ -82,7 +96,7 @@ fn read_event(line: &[u8]) -> Option<Event> {
 }
 
 /// One output line: its first field and numbers, parted by tabs.
-fn print(output: &mut Vec<u8>, first: impl Display, numbers: &[u32]) {
+pub fn print(output: &mut Vec<u8>, first: impl Display, numbers: &[u32]) {
     write!(output, "{first}").expect("a vector takes every write");
     for number in numbers {
         write!(output, "\t{number}").expect("a vector takes every write");

@@ -1,6 +1,7 @@
 //! The row that 19 names and its excess (document 02, S-2), worked out by hand.
 
 use reference::drain::{drain, Drained};
+use reference::event::{Answer, Refusal};
 use reference::run::run;
 use reference::table::BrokenRow;
 use reference::{Event, Plan, Table};
@@ -25,11 +26,11 @@ fn broken(row: u32, excess: u16) -> Option<BrokenRow> {
     Some(BrokenRow { row, excess })
 }
 
-/// An event that is refused changes nothing.
-fn assert_refused(plan: &Plan, before: &Table, event: Event, number: u32, place: u32) {
+/// An event that is refused changes nothing; only 19 has an excess.
+fn assert_refused(plan: &Plan, before: &Table, event: Event, answer: Answer, excess: u16) {
     let mut after = before.clone();
-    let refused = event.apply(plan, &mut after);
-    assert_eq!(refused, answer(number, place), "{event:?}");
+    let refused = event.attempt(plan, &mut after);
+    assert_eq!(refused, Err(Refusal { answer, excess }), "{event:?}");
     assert_eq!(after, *before);
 }
 
@@ -45,7 +46,7 @@ fn loads() {
         let plan = plan(&weighed(bounds, &[weights]));
         let found = row_test(&plan, &[1]);
         assert_eq!(found, broken(row, excess), "{bounds:?} {weights:?}");
-        assert_refused(&plan, &Table::EMPTY, LOAD, 19, row);
+        assert_refused(&plan, &Table::EMPTY, LOAD, answer(19, row), excess);
     }
 }
 
@@ -58,7 +59,13 @@ fn advances() {
         assert_eq!(found, broken(row, excess), "{bounds:?} {stages:?}");
         let before = table([2, 0, 0, 0, 0, 0]);
         for job in [1, 2] {
-            assert_refused(&plan, &before, Event::Advance { job }, 19, row);
+            assert_refused(
+                &plan,
+                &before,
+                Event::Advance { job },
+                answer(19, row),
+                excess,
+            );
         }
     }
 }
@@ -73,7 +80,7 @@ fn kept_rows() {
     assert_eq!(LOAD.apply(&plan, &mut loaded), answer(0, 0));
     // 10, 0, 510, 12: excess 5, none, 255, 5
     assert_eq!(row_test(&plan, &[1, 1]), broken(3, 255));
-    assert_refused(&plan, &table([1, 0, 0, 0, 0, 0]), LOAD, 19, 3);
+    assert_refused(&plan, &table([1, 0, 0, 0, 0, 0]), LOAD, answer(19, 3), 255);
 }
 
 /// Each of 32 rows as the only one broken, by 2, and as the worst, by 3 where the others are
@@ -86,7 +93,7 @@ fn every_row() {
         for (bound, excess) in [(10, 2), (9, 3)] {
             let plan = plan(&weighed(&[bound; 32], &[&weights]));
             assert_eq!(row_test(&plan, &[1]), broken(row as u32, excess));
-            assert_refused(&plan, &Table::EMPTY, LOAD, 19, row as u32);
+            assert_refused(&plan, &Table::EMPTY, LOAD, answer(19, row as u32), excess);
         }
     }
 }
@@ -98,7 +105,7 @@ fn largest_excess_of_an_event() {
     let plan = plan(&weighed(&[16_066, 16_065, 16_065], &[&[255; 3]]));
     let before = table([63, 0, 0, 0, 0, 0]);
     assert!(before.usage(&plan).is_some());
-    assert_refused(&plan, &before, LOAD, 19, 2);
+    assert_refused(&plan, &before, LOAD, answer(19, 2), 255);
     assert_eq!(row_test(&plan, &[1; 64]), broken(2, 255));
 }
 
@@ -108,7 +115,7 @@ fn largest_excess() {
     let plan = plan(&weighed(&[1, 0, 0], &[&[255; 3]]));
     assert_eq!(row_test(&plan, &[1; 64]), broken(2, 16_320));
     let full = table([64, 0, 0, 0, 0, 0]);
-    assert_refused(&plan, &full, LOAD, 12, 0);
+    assert_refused(&plan, &full, LOAD, answer(12, 0), 0);
 }
 
 /// Two jobs of 128 each: excess 255, 256. In one byte the latter would be 0.
@@ -125,7 +132,8 @@ fn capacities_before_rows() {
     for (text, number, place) in crowded() {
         let plan = plan(&text);
         assert_eq!(row_test(&plan, &[1, 1]), broken(2, 9));
-        assert_refused(&plan, &one, LOAD, number, place);
+        let excess = if number == 19 { 9 } else { 0 };
+        assert_refused(&plan, &one, LOAD, answer(number, place), excess);
     }
 }
 
@@ -145,7 +153,7 @@ fn broken_before() {
         Event::Pull { job },
     ];
     for event in events {
-        assert_refused(&plan, &heavy, event, 12, 0);
+        assert_refused(&plan, &heavy, event, answer(12, 0), 0);
     }
     let refused = Drained {
         number: 12,
