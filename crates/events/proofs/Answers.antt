@@ -36,7 +36,7 @@ use Rattle.events.specs.declared.Answer.the-variants.{UnknownType, Full,
 use Rattle.events.proofs.JobLists.{agreeing-list, decides-agrees}
 
 -- the type that a load names is one of the plan's
-abbrev TypeInPlan : Plan → Event → Type 0
+abbrev pub TypeInPlan : Plan → Event → Type 0
 TypeInPlan p (Load n t) = InRange t (p .types)
 TypeInPlan p (Advance n) = Unit {0}
 TypeInPlan p (Unload n) = Unit {0}
@@ -96,7 +96,7 @@ module _ (p : Plan) (sound : Sound p) (js : List Job) (agreeing : Agreeing p js)
     decides-named P d = decides-iff (λ h c. subst P (found p c (agreeing .distinct) .job) h) (λ h. subst⁻¹ P (names .job) (h a)) d
 
   -- the model names one list, the one that is computed
-  leads-after : (e : Event) {next : List Job} → LeadsTo p js e next → next ≡ jobsAfter p js e
+  pub leads-after : (e : Event) {next : List Job} → LeadsTo p js e next → next ≡ jobsAfter p js e
   leads-after (Load n t) h = h
   leads-after (Advance n) h = h .2 ∙ sym (names n (h .0) .advance)
   leads-after (Unload n) h = h .2 ∙ sym (names n (h .0) .removal)
@@ -111,7 +111,7 @@ module _ (p : Plan) (sound : Sound p) (js : List Job) (agreeing : Agreeing p js)
   leads-pull : (n : ℕ) (a : Active n js) → LeadsTo p js (Pull n) (removed n js)
   leads-pull n a = (a, names n a .removal)
 
-  staged-after : (e : Event) (next : List Job) → TypeInPlan p e → LeadsTo p js e next → Each (AtStage p) next
+  pub staged-after : (e : Event) (next : List Job) → TypeInPlan p e → LeadsTo p js e next → Each (AtStage p) next
   staged-after (Load n t) next type h =
       rw h (append-each (AtStage p) js (loadedJob n t ∷ []) (agreeing .staged) ((type, omega (arith, sound .lengths t type)), tt))
   staged-after (Advance n) next type h =

@@ -157,7 +157,7 @@ module _ (p : Plan) (js : List Job) (staged : Each (AtStage p) js) where
   unfolding exceeded
   lowest-exceeded = lowest-found _ _ (p .resources) (λ r h. decides-unit r)
 
-  excess : (w : ℕ) → rowExcess p w js ≡ excessOf p js w
+  pub excess : (w : ℕ) → rowExcess p w js ≡ excessOf p js w
   excess w = ap (λ (n : ℕ). n - boundOf p w) (over-stages-jobs p (weightOf p w) js staged)
 
   pub decides-rows : Decides (KeepsRows p js) (eqb (broken p js) 0)

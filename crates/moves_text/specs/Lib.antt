@@ -1,6 +1,6 @@
 -- What `cellmoves` reads and prints, to be read in this order: quoted text, numbers and fields as bytes, the input's two parts, the event
 -- lines, the lines of the output, the output as document 01 words it, the same computed, what it has to do with the emptying
--- theorem, the message for a person, and a buffer with something written into it.
+-- theorem, and a buffer with something written into it.
 pub mod Quoted
 pub mod Decimals
 pub mod Division
@@ -9,5 +9,4 @@ pub mod OutputLines
 pub mod Prints
 pub mod Output
 pub mod PrintedRule
-pub mod Message
 pub mod Buffer

@@ -23,7 +23,7 @@ fn is_plain_byte(b: u8) -> bool
     if b < 32 { false } else { b <= 126 }
 }
 
-fn is_plain(line: &[u8]) -> bool
+pub fn is_plain(line: &[u8]) -> bool
     ensures { λ r. ⌜ r ≡ each isPlain (now (line .entry)) ⌝ }
 {
     let mut i = 0;
@@ -58,7 +58,7 @@ fn section_of_letter(letter: u8) -> u32
     }
 }
 
-fn section_of(line: &[u8]) -> u32
+pub fn section_of(line: &[u8]) -> u32
     ensures { λ r. ⌜ r ≡ sectionOf (letterIn (columns (now (line .entry)))) ⌝ }
 {
     section_of_letter(letter_of(line))

@@ -61,7 +61,7 @@ fn within(count: usize) -> usize
 }
 
 // Where a job's stage stands among all stages, counted from 0; 128 where the plan has no such stage. Type 0 has none.
-fn index_of(lengths: &[u8; 16], types: u32, j: Job) -> usize
+pub fn index_of(lengths: &[u8; 16], types: u32, j: Job) -> usize
     ensures { λ r. ⌜ r ≡ indexIn (now (lengths .entry)) types (j .kind) (j .stage) ⌝ }
 {
     if types < j.kind {
@@ -111,7 +111,7 @@ fn less(x: u32, y: u32) -> u32
 
 // By how much an amount is above its ceiling once the old is given back and the new taken; 0 where it is not. In 32 bits, which hold it for
 // any input.
-fn excess_after(amount: u16, old: u8, new: u8, ceiling: u16) -> u32
+pub fn above_ceiling(amount: u16, old: u8, new: u8, ceiling: u16) -> u32
     ensures { λ r. ⌜ r ≡ amount - old + new - ceiling ⌝ }
 {
     let left = less(u16_to_u32(amount), u8_to_u32(old));
@@ -129,7 +129,7 @@ fn lowest_above<'a>(
 {
     let mut i = 0;
     while i < 32 {
-        if 0 < excess_after(amounts[i], old[i], new[i], ceilings[i]) {
+        if 0 < above_ceiling(amounts[i], old[i], new[i], ceilings[i]) {
             return (i + 1) as u32;
         }
         i += 1;
@@ -151,7 +151,7 @@ pub fn worst_row<'a>(
     let mut excess = 0;
     let mut i = 0;
     while i < 32 {
-        let above = excess_after(sums[i], old[i], new[i], bounds[i]);
+        let above = above_ceiling(sums[i], old[i], new[i], bounds[i]);
         if excess < above {
             row = (i + 1) as u32;
             excess = above;

@@ -1,6 +1,6 @@
 // A buffer that is lent to an entrance, and what became of it.
-use moves_messages::refusal_message;
 use moves_run::answer_input;
+use tell_plan::input_message;
 
 // What each byte of the buffer is before it is lent. No output and no message has it.
 pub(crate) const UNTOUCHED: u8 = 255;
@@ -8,7 +8,7 @@ pub(crate) const UNTOUCHED: u8 = 255;
 // The output of an input, or its message.
 pub(crate) fn put(message: bool, input: &[u8], out: &mut [u8]) -> usize {
     if message {
-        refusal_message(input, out)
+        input_message(input, out)
     } else {
         answer_input(input, out)
     }

@@ -24,33 +24,33 @@ within sum ceiling e h = le-leb sum ceiling (omega arith)
 over : (sum ceiling : ℕ) {excess : ℕ} → excess ≡ sum - ceiling → 0 < excess → leb sum ceiling ≡ false
 over sum ceiling e h = lt-leb sum ceiling (omega arith)
 
-abbrev turn : tie.After-excess-after Inv-loop μ-loop → tie.At-loop Inv-loop μ-loop
+abbrev turn : tie.After-above-ceiling Inv-loop μ-loop → tie.At-loop Inv-loop μ-loop
 turn c = c .before .before .before .before .before .before
 
 loop-holds : tie.Need-loop-holds Inv-loop μ-loop
 unfolding lowestAfter
 loop-holds c = (search needs, refl)
 
-mul-excess-after : tie.Need-mul-excess-after Inv-loop μ-loop
-mul-excess-after c = search needs
+mul-above-ceiling : tie.Need-mul-above-ceiling Inv-loop μ-loop
+mul-above-ceiling c = search needs
 
-element-copy-out-excess-after : tie.Need-element-copy-out-excess-after Inv-loop μ-loop
-element-copy-out-excess-after c = search needs
+element-copy-out-above-ceiling : tie.Need-element-copy-out-above-ceiling Inv-loop μ-loop
+element-copy-out-above-ceiling c = search needs
 
-element-copy-out-excess-after-2 : tie.Need-element-copy-out-excess-after-2 Inv-loop μ-loop
-element-copy-out-excess-after-2 c = search needs
+element-copy-out-above-ceiling-2 : tie.Need-element-copy-out-above-ceiling-2 Inv-loop μ-loop
+element-copy-out-above-ceiling-2 c = search needs
 
-element-copy-out-excess-after-3 : tie.Need-element-copy-out-excess-after-3 Inv-loop μ-loop
-element-copy-out-excess-after-3 c = search needs
+element-copy-out-above-ceiling-3 : tie.Need-element-copy-out-above-ceiling-3 Inv-loop μ-loop
+element-copy-out-above-ceiling-3 c = search needs
 
-mul-excess-after-2 : tie.Need-mul-excess-after-2 Inv-loop μ-loop
-mul-excess-after-2 c = search needs
+mul-above-ceiling-2 : tie.Need-mul-above-ceiling-2 Inv-loop μ-loop
+mul-above-ceiling-2 c = search needs
 
-element-copy-out-excess-after-4 : tie.Need-element-copy-out-excess-after-4 Inv-loop μ-loop
-element-copy-out-excess-after-4 c = search needs
+element-copy-out-above-ceiling-4 : tie.Need-element-copy-out-above-ceiling-4 Inv-loop μ-loop
+element-copy-out-above-ceiling-4 c = search needs
 
-excess-after-requires : tie.Need-excess-after-requires Inv-loop μ-loop
-excess-after-requires c κs = search needs
+above-ceiling-requires : tie.Need-above-ceiling-requires Inv-loop μ-loop
+above-ceiling-requires c κs = search needs
 
 add-result : tie.Need-add-result Inv-loop μ-loop
 add-result c = search needs
@@ -62,7 +62,7 @@ returns : tie.Need-returns Inv-loop μ-loop
 unfolding lowestAfter
 returns c =
     let l = turn (c .before) .loop in
-    sym (lowest-at _ 32 (l .i) (omega arith) (l .inv .1) (over _ _ (c .before .excess-after .ensures) (c .if1 .taken)))
+    sym (lowest-at _ 32 (l .i) (omega arith) (l .inv .1) (over _ _ (c .before .above-ceiling .ensures) (c .if1 .taken)))
 
 add-i : tie.Need-add-i Inv-loop μ-loop
 add-i c = search needs
@@ -74,7 +74,7 @@ loop-again : tie.Need-loop-again Inv-loop μ-loop
 unfolding lowestAfter
 loop-again c =
     let l = turn (c .before) .loop in
-    (search needs, lowest-more _ (l .i) (l .inv .1) (within _ _ (c .before .excess-after .ensures) (c .if1 .left)))
+    (search needs, lowest-more _ (l .i) (l .inv .1) (within _ _ (c .before .above-ceiling .ensures) (c .if1 .left)))
 
 returns-2 : tie.Need-returns-2 Inv-loop μ-loop
 returns-2 c = let l = c .before .loop in let last : l .i ≡ 32 = omega arith in rw last at (sym (l .inv .1))
@@ -86,13 +86,13 @@ lowest-above-spec =
     Inv-loop
     μ-loop
     loop-holds
-    mul-excess-after
-    element-copy-out-excess-after
-    element-copy-out-excess-after-2
-    element-copy-out-excess-after-3
-    mul-excess-after-2
-    element-copy-out-excess-after-4
-    excess-after-requires
+    mul-above-ceiling
+    element-copy-out-above-ceiling
+    element-copy-out-above-ceiling-2
+    element-copy-out-above-ceiling-3
+    mul-above-ceiling-2
+    element-copy-out-above-ceiling-4
+    above-ceiling-requires
     add-result
     cast-result
     returns

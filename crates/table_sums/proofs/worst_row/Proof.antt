@@ -21,33 +21,33 @@ Inv-loop amounts old new ceilings row₀ excess₀ i₀ row excess i = (i ≤ 32
 abbrev μ-loop : tie.MeasureT-loop
 μ-loop amounts old new ceilings row₀ excess₀ i₀ row excess i = 32 - i
 
-abbrev turn : tie.After-excess-after Inv-loop μ-loop → tie.At-loop Inv-loop μ-loop
+abbrev turn : tie.After-above-ceiling Inv-loop μ-loop → tie.At-loop Inv-loop μ-loop
 turn c = c .before .before .before .before .before .before
 
 loop-holds : tie.Need-loop-holds Inv-loop μ-loop
 unfolding greatestAfter
 loop-holds c = (search needs, refl)
 
-mul-excess-after : tie.Need-mul-excess-after Inv-loop μ-loop
-mul-excess-after c = search needs
+mul-above-ceiling : tie.Need-mul-above-ceiling Inv-loop μ-loop
+mul-above-ceiling c = search needs
 
-element-copy-out-excess-after : tie.Need-element-copy-out-excess-after Inv-loop μ-loop
-element-copy-out-excess-after c = search needs
+element-copy-out-above-ceiling : tie.Need-element-copy-out-above-ceiling Inv-loop μ-loop
+element-copy-out-above-ceiling c = search needs
 
-element-copy-out-excess-after-2 : tie.Need-element-copy-out-excess-after-2 Inv-loop μ-loop
-element-copy-out-excess-after-2 c = search needs
+element-copy-out-above-ceiling-2 : tie.Need-element-copy-out-above-ceiling-2 Inv-loop μ-loop
+element-copy-out-above-ceiling-2 c = search needs
 
-element-copy-out-excess-after-3 : tie.Need-element-copy-out-excess-after-3 Inv-loop μ-loop
-element-copy-out-excess-after-3 c = search needs
+element-copy-out-above-ceiling-3 : tie.Need-element-copy-out-above-ceiling-3 Inv-loop μ-loop
+element-copy-out-above-ceiling-3 c = search needs
 
-mul-excess-after-2 : tie.Need-mul-excess-after-2 Inv-loop μ-loop
-mul-excess-after-2 c = search needs
+mul-above-ceiling-2 : tie.Need-mul-above-ceiling-2 Inv-loop μ-loop
+mul-above-ceiling-2 c = search needs
 
-element-copy-out-excess-after-4 : tie.Need-element-copy-out-excess-after-4 Inv-loop μ-loop
-element-copy-out-excess-after-4 c = search needs
+element-copy-out-above-ceiling-4 : tie.Need-element-copy-out-above-ceiling-4 Inv-loop μ-loop
+element-copy-out-above-ceiling-4 c = search needs
 
-excess-after-requires : tie.Need-excess-after-requires Inv-loop μ-loop
-excess-after-requires c κs = search needs
+above-ceiling-requires : tie.Need-above-ceiling-requires Inv-loop μ-loop
+above-ceiling-requires c κs = search needs
 
 add-row : tie.Need-add-row Inv-loop μ-loop
 add-row c = search needs
@@ -65,7 +65,7 @@ loop-again : tie.Need-loop-again Inv-loop μ-loop
 unfolding greatestAfter
 loop-again c =
     let l = turn (c .before) .loop in
-    let above = c .before .excess-after .ensures in
+    let above = c .before .above-ceiling .ensures in
     let next =
     greatest-more _ (l .i) (ap parts (l .inv .1)) (λ w. (omega (arith, w .0 .taken, above), w .1, w .2 ∙ above))
     (λ w. (omega (arith, w .0 .left, above), w .1, w .2))
@@ -82,13 +82,13 @@ worst-row-spec =
     Inv-loop
     μ-loop
     loop-holds
-    mul-excess-after
-    element-copy-out-excess-after
-    element-copy-out-excess-after-2
-    element-copy-out-excess-after-3
-    mul-excess-after-2
-    element-copy-out-excess-after-4
-    excess-after-requires
+    mul-above-ceiling
+    element-copy-out-above-ceiling
+    element-copy-out-above-ceiling-2
+    element-copy-out-above-ceiling-3
+    mul-above-ceiling-2
+    element-copy-out-above-ceiling-4
+    above-ceiling-requires
     add-row
     cast-row
     add-i

@@ -1,0 +1,2 @@
+-- The laws behind the code that looks for slips.
+pub mod Bytes
