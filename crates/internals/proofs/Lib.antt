@@ -2,7 +2,6 @@
 pub mod FixedWidth
 pub mod StageIndex
 pub mod SumsPass
-pub mod SumsOver
 pub mod SumsAfter
 pub mod ClosingGap
 pub mod Positions

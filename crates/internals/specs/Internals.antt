@@ -1,7 +1,7 @@
 -- What the parts of the entrances compute, each under one name. No promise rests on these but that of the row test, `worst_after`: the contracts of
 -- the entrances are equations with the definitions of `events` and `model`.
-use Rattle.std.specs.Prelude.{ℕ, zero, suc, ◌+◌, ◌-◌, ◌≤◌, Bool, true, cond, not, ◌&&◌, List, [], ◌∷◌, ◌++◌, map, ◌≡◌, length, take, drop, get_or, set, replicate, leb, ltb, eqb}
-use Rattle.model.specs.Limits.{max_resources, max_rows, max_all_stages, max_units, max_number, max_jobs, max_sum}
+use Rattle.std.specs.Prelude.{ℕ, zero, suc, ◌+◌, ◌-◌, ◌≤◌, Bool, true, cond, not, ◌&&◌, List, [], ◌∷◌, ◌++◌, ◌≡◌, length, take, drop, get_or, set, replicate, leb, ltb, eqb}
+use Rattle.model.specs.Limits.{max_resources, max_rows, max_all_stages, max_number, max_jobs}
 use Rattle.model.specs.Numbers.{InRange, in_range, at, sum_to, lowest, greatest, Each, each}
 use Rattle.model.specs.Questions.{ask, answer_of}
 use Rattle.model.specs.Plan.{length_of, demand_of, weight_of}
@@ -10,7 +10,6 @@ use Rattle.model.specs.Soundness.{Sound}
 use Rattle.model.specs.declared.Plan.{Plan}
 use Rattle.model.specs.declared.Stage.{Stage}
 use Rattle.model.specs.declared.Job.{Job}
-use Rattle.plan_bytes.specs.Over.{stage_at}
 use Rattle.events.specs.JobList.{jobs_of, list_of, is_no_job}
 use Rattle.events.specs.Events.{agreement, answer, is_admitted, kept_answer, jobs_after}
 use Rattle.events.specs.Drain.{move_of}
@@ -39,42 +38,16 @@ stage_index lengths t k = sum_to (t - 1) (at lengths) + (k - 1)
 abbrev pub index_in : List ℕ → ℕ → ℕ → ℕ → ℕ
 index_in lengths types t k = cond (in_range t types && in_range k (at lengths t)) (stage_index lengths t k) max_all_stages
 
--- where the stages of these jobs stand
-abbrev pub indices_in : List ℕ → ℕ → List Job → List ℕ
-indices_in lengths types js = map (λ (j : Job). index_in lengths types j.kind j.stage) js
+-- 32 amounts, each of at most this much
+pub record Few (most : ℕ) (amounts : List ℕ) : Type 0 where
+  pub lanes : length amounts ≡ 32
+  pub low : (i : ℕ) → InRange i 32 → at amounts i ≤ most
 
--- the sum of an amount over these numbers
-abbrev pub sum_over : (ℕ → ℕ) → List ℕ → ℕ
-sum_over f [] = 0
-sum_over f (n ∷ ns) = f n + sum_over f ns
-
--- what the stage at an index demands of resource r, and weighs in row w; and the sums of these over all stages at some indices
-abbrev pub demand_at : List ℕ → ℕ → ℕ → ℕ
-demand_at bytes r n = at (stage_at bytes n).demand r
-
-abbrev pub weight_at : List ℕ → ℕ → ℕ → ℕ
-weight_at bytes w n = at (stage_at bytes n).weight w
-
-unfoldable pub units_at : List ℕ → List ℕ → List ℕ
-units_at bytes ns = tabulate max_resources (λ (r : ℕ). sum_over (demand_at bytes r) ns)
-
-unfoldable pub rows_at : List ℕ → List ℕ → List ℕ
-rows_at bytes ns = tabulate max_rows (λ (w : ℕ). sum_over (weight_at bytes w) ns)
-
--- so many amounts, each of at most this much
-pub record Few (lanes most : ℕ) (amounts : List ℕ) : Type 0 where
-  pub many : length amounts ≡ lanes
-  pub low : (i : ℕ) → InRange i lanes → at amounts i ≤ most
-
--- each of so many amounts has grown by its own, which is at most 255
-pub record Grown (lanes : ℕ) (amounts more after : List ℕ) : Type 0 where
-  pub many : length after ≡ lanes
-  pub sum : (i : ℕ) → InRange i lanes → at after i ≡ at amounts i + at more i
-  pub low : (i : ℕ) → InRange i lanes → at after i ≤ at amounts i + max_units
-
--- the rows' sums over every front part of these stages, which are the partial sums: none passes 16,320 (change request S-6)
-abbrev pub FrontsFit : List ℕ → List ℕ → Type 0
-FrontsFit bytes ns = (n : ℕ) → Few max_rows max_sum (rows_at bytes (take n ns))
+-- each of 32 amounts has grown by its own, which is at most 255
+pub record Grown (amounts more after : List ℕ) : Type 0 where
+  pub lanes : length after ≡ 32
+  pub sum : (i : ℕ) → InRange i 32 → at after i ≡ at amounts i + at more i
+  pub low : (i : ℕ) → InRange i 32 → at after i ≤ at amounts i + 255
 
 -- the sums over these jobs, and over none
 unfoldable pub sums_of : Plan → List Job → Sums

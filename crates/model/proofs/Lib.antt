@@ -4,7 +4,6 @@ pub mod Lists
 pub mod Sums
 pub mod Flat
 pub mod Jobs
-pub mod RowSums
 pub mod Soundness
 pub mod Upstream
 pub mod Progress

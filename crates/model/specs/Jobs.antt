@@ -1,7 +1,7 @@
 -- Jobs in the order they were loaded: what they hold, how a list of them changes, and when it agrees with a plan.
 -- Over resources and rows jobs meet only in the sums below (Condition 4 of source document 003).
 use Rattle.std.specs.Prelude.{ℕ, ◌+◌, ◌-◌, ◌*◌, ◌≤◌, ◌<◌, Bool, true, false, cond, not, ◌&&◌, ◌||◌, List, [], ◌∷◌, ◌++◌, map, ◌⊎◌, ◌≡◌, leb, ltb, eqb}
-use Rattle.model.specs.Limits.{max_rows, max_number, max_sum}
+use Rattle.model.specs.Limits.{max_number}
 use Rattle.model.specs.Numbers.{InRange, in_range, at, sum_to, lowest, Lowest, greatest, Greatest, Each, each, Split, Distinct}
 use Rattle.model.specs.Plan.{length_of, IsStage, demand_of, weight_of, capacity_of, bound_of, stage_after}
 use Rattle.model.specs.declared.Plan.{Plan}
@@ -57,12 +57,6 @@ RowTest p js row excess = (KeepsRows p js × (row ≡ 0) × (excess ≡ 0)) ⊎ 
 abbrev pub over_jobs : (ℕ → ℕ → ℕ) → List Job → ℕ
 over_jobs f [] = 0
 over_jobs f (j ∷ js) = f j.kind j.stage + over_jobs f js
-
--- what is formed on the way to a row's sum fits 16 bits (change request S-6): no product of Equation 1 passes 16,320, and job by job no sum over a front
--- part of the list does, which are the partial sums; of every row that a plan may have
-pub record RowSumsFit (p : Plan) (js : List Job) : Type 0 where
-  pub products : (w : ℕ) → InRange w max_rows → (t k : ℕ) → weight_of p w t k * jobs_at js t k ≤ max_sum
-  pub partial : (w : ℕ) → InRange w max_rows → (front rest : List Job) → js ≡ front ++ rest → over_jobs (weight_of p w) front ≤ max_sum
 
 -- the same, computed: the lowest resource exceeded, 0 for none
 unfoldable pub exceeded : Plan → List Job → ℕ
