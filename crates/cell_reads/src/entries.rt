@@ -4,7 +4,7 @@ ghost use Rattle.plan_bytes.specs.Over.{bytes_from};
 ghost use Rattle.cell_layout.specs.Layout.{value_of, bound_size, job_in, job_size};
 
 use arithmetic::{u8_to_u16, u8_to_u32};
-use bytes::copy;
+use byte_slices::copy;
 use model::Job;
 
 // A bound has two bytes.

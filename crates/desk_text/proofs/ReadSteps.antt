@@ -7,7 +7,7 @@ use mathlib.Core.List.{List, [], ◌∷◌, ◌++◌, append-nil, append_assoc}
 use mathlib.Core.Path.{◌≡◌, refl, sym, ap, ◌∙◌}
 use lib.Dec.{ltb}
 use lib.ListN.{length, take, drop}
-use Rattle.bytes.specs.Bytes.{slice, index_of}
+use Rattle.byte_slices.specs.Bytes.{slice, index_of}
 use Rattle.model.specs.declared.Plan.{Plan}
 use Rattle.plan_text.specs.Lines.{Line, line_end, lines_of}
 use Rattle.plan_text.proofs.LineByLine.{end_within, line_here, no_line}

@@ -8,7 +8,7 @@ use mathlib.Core.Path.{◌≡◌, refl}
 use lib.Dec.{eqb, ltb}
 use lib.ListN.{length, take, drop, get_or}
 use borrow.Author.Tests.{lt-ltb, le-ltb}
-use Rattle.bytes.specs.Bytes.{slice, index_of}
+use Rattle.byte_slices.specs.Bytes.{slice, index_of}
 use Rattle.model.proofs.Decide.{decided, decides_lt}
 use Rattle.plan_text.specs.Lines.{Line, line_end, lines_of}
 use Rattle.plan_text.proofs.LineByLine.{end_within, line_length, line_here, no_line}

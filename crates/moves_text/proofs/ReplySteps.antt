@@ -8,7 +8,7 @@ use mathlib.Core.Path.{◌≡◌, refl, sym, ap, ◌∙◌}
 use lib.Dec.{ltb}
 use lib.ListN.{length, take, drop, take-append-drop, length-append}
 use lib.Seq.{take-nil}
-use Rattle.bytes.specs.Bytes.{slice, index_of}
+use Rattle.byte_slices.specs.Bytes.{slice, index_of}
 use Rattle.model.specs.Limits.{max_jobs}
 use Rattle.model.specs.declared.Plan.{Plan}
 use Rattle.events.specs.JobList.{empty_list, list_of}

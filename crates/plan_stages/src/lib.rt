@@ -6,7 +6,7 @@ ghost use Rattle.plan_bytes.specs.Over.{bytes_from, stage_at};
 ghost use Rattle.internals.specs.Internals.{stage_index};
 
 use arithmetic::{u8_to_u32, u8_to_usize};
-use bytes::copy;
+use byte_slices::copy;
 
 // The index of no stage: it is beyond the last.
 pub const NO_STAGE: usize = 128;

@@ -10,7 +10,7 @@ use lib.Dec.{eqb, ltb}
 use lib.ListN.{length, take, drop, length-append}
 use lib.Seq.{set-get_or}
 use borrow.Author.Tests.{eqb-true}
-use Rattle.bytes.specs.Bytes.{slice, index_of}
+use Rattle.byte_slices.specs.Bytes.{slice, index_of}
 use Rattle.model.specs.Numbers.{each}
 use Rattle.model.specs.Questions.{Condition, AllHold, FirstFailure}
 use Rattle.model.specs.Plan.{no_stage}

@@ -9,7 +9,7 @@ use lib.Dec.{eqb, ltb}
 use lib.ListN.{length, take, drop, length-drop, drop_of_length-le}
 use lib.Seq.{take-length, length-take-le}
 use borrow.Author.Tests.{lt-ltb, le-ltb}
-use Rattle.bytes.specs.Bytes.{slice, index_after, index_of}
+use Rattle.byte_slices.specs.Bytes.{slice, index_after, index_of}
 use Rattle.model.proofs.Decide.{decided, decides_lt}
 use Rattle.plan_text.specs.Lines.{line_end, split_by, lines_in, lines_of}
 use Rattle.plan_text.proofs.Split.{split_some, after_separator, after_end, split_from}

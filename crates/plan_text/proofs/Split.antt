@@ -12,7 +12,7 @@ use lib.Seq.{take-length, drop-length, drop-cons, drop-drop}
 use borrow.Author.Tests.{eq-eqb, ne_eqb}
 use Rattle.model.specs.Numbers.{Each}
 use Rattle.model.proofs.Decide.{decided, decides_eq}
-use Rattle.bytes.specs.Bytes.{slice, index_after, index_of}
+use Rattle.byte_slices.specs.Bytes.{slice, index_after, index_of}
 use Rattle.plan_text.specs.Lines.{wider, split_by}
 
 -- the parts after the separator that a list begins with; none of a list that is at its end

@@ -5,7 +5,7 @@ use mathlib.Core.List.{List, ◌∷◌}
 use mathlib.Core.Path.{◌≡◌, refl, sym, ap, ◌∙◌}
 use lib.ListN.{length, take, drop, set}
 use borrow.Author.Tests.{lt-ltb}
-use Rattle.bytes.specs.Bytes.{slice, index_of}
+use Rattle.byte_slices.specs.Bytes.{slice, index_of}
 use Rattle.plan_text.specs.Lines.{tab, columns, fields_in}
 use Rattle.plan_text.specs.RecordTests.{is_numeral, fields_on}
 use Rattle.plan_text.specs.ReaderInternals.{no_value, value_read}

@@ -4,7 +4,7 @@ ghost use Rattle.plan_text.specs.Lines.{is_skipped, columns, letter_in, letter_b
 ghost use Rattle.plan_text.specs.RecordTests.{fields_read};
 ghost use Rattle.plan_text.specs.ReaderInternals.{value_read};
 
-use bytes::scan::find;
+use byte_slices::find;
 use plan_text::Fields;
 
 // What is read of a field that is no number; 5 digits never say it.

@@ -5,7 +5,7 @@ ghost use Rattle.plan_text.specs.TextParts.{IsPart};
 ghost use Rattle.read_lines.specs.LineReads.{at_start, Reads};
 
 use arithmetic::at_most;
-use bytes::scan::find;
+use byte_slices::find;
 use plan_text::LineSpan;
 
 // Where the line ends that begins at an offset: at its LF or, without one, at the end of the text.

@@ -8,7 +8,7 @@ use mathlib.Core.Logic.{⊎_elim}
 use mathlib.Core.Path.{◌≡◌, refl, sym, ap, subst, ◌∙◌}
 use lib.Dec.{eqb, ltb}
 use lib.ListN.{length, take, drop, replicate, length-set}
-use Rattle.bytes.specs.Bytes.{slice, index_of}
+use Rattle.byte_slices.specs.Bytes.{slice, index_of}
 use Rattle.model.specs.Limits.{max_resources, max_types, max_all_stages}
 use Rattle.model.specs.Numbers.{at}
 use Rattle.model.specs.Plan.{empty_plan}

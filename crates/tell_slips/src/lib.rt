@@ -3,7 +3,7 @@ ghost use Rattle.std.specs.Prelude.{◌≡◌, ◌&&◌, leb};
 ghost use Rattle.plan_text.specs.Lines.{columns, letter_in};
 ghost use Rattle.told_text.specs.Slips.{has_byte, ends_in_return, tabs_in, count_slip, line_slip, letter_slip, fields_slip, plan_slip, event_fields, event_slip};
 
-use bytes::scan::find;
+use byte_slices::find;
 use plan_text::TextAnswer;
 use read_fields::letter_of;
 use read_form::{is_plain, section_of};

@@ -14,7 +14,7 @@ mod plan;
 mod show;
 mod text;
 
-use bytes::scan::find;
+use byte_slices::find;
 use libc::STDIN_FILENO;
 use read_lines::line_end;
 use text::{Buffer, put_text};

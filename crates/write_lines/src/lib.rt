@@ -6,7 +6,7 @@ ghost use Rattle.moves_text.specs.OutputLines.{plan_line, check_line, event_line
 ghost use Rattle.moves_text.specs.Buffer.{overlaid, overlaid_at};
 
 use arithmetic::at_most;
-use bytes::copy;
+use byte_slices::copy;
 use io::decimal;
 
 // From the start of the buffer on.

@@ -4,7 +4,7 @@ use native.Mathlib.Omega.{arith}
 use mathlib.Core.List.{List}
 use mathlib.Core.Path.{◌≡◌, sym, ◌∙◌}
 use lib.ListN.{length}
-use Rattle.bytes.specs.Bytes.{slice, index_of}
+use Rattle.byte_slices.specs.Bytes.{slice, index_of}
 use Rattle.plan_text.specs.Lines.{line_end}
 use Rattle.plan_text.proofs.LineReading.{end_found, end_bounds}
 use Rattle.moves_text.specs.Division.{plan_length}
