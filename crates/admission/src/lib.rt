@@ -1,4 +1,6 @@
 // The table of active jobs with its methods: what a host calls. Each hands its job list to the function that does the work.
+#![tactic(auto)]
+
 ghost use Rattle.std.specs.Prelude.{◌≡◌};
 ghost use Rattle.events.specs.Events.{agreement};
 ghost use Rattle.plan_bytes.specs.Over.{plan_over};
@@ -10,20 +12,20 @@ use plan_bytes::Frame;
 use table_jobs::{changed, laid};
 
 // Document 01's table. Any list may stand in it: whether it agrees with a plan is asked, not assumed.
-#[derive(Drop)]
+#[derive(Clone, Copy)]
 pub struct Table {
     pub list: JobList,
 }
 
 // The answer to an event with the table afterwards.
-#[derive(Drop)]
+#[derive(Clone, Copy)]
 pub struct Outcome {
     pub answer: Answer,
     pub table: Table,
 }
 
 // The end of a drain with the moves made and the table afterwards.
-#[derive(Drop)]
+#[derive(Clone, Copy)]
 pub struct Drained {
     pub end: End,
     pub moves: u32,

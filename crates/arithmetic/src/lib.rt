@@ -1,4 +1,6 @@
 // What all rooms need of numbers: one in a wider type, of which it is known what its own type held at most, and the lower of two.
+#![tactic(auto)]
+
 ghost use Rattle.std.specs.Prelude.{◌≡◌, ◌≤◌, min};
 
 pub fn u8_to_u16(x: u8) -> u16

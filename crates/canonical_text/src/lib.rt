@@ -1,7 +1,8 @@
 // The canonical form of a plan, and what writing it answers, as values. What they mean is defined in specs/, and nothing runs here.
+#![tactic(auto)]
 
 // What the writer answers; its numbers are `writeNumber` of specs/Writing.
-#[derive(Drop)]
+#[derive(Clone, Copy)]
 pub enum WriteAnswer {
     Written,
     UnsoundPlan,
@@ -9,7 +10,7 @@ pub enum WriteAnswer {
 }
 
 // The answer, and the length of the text written; 0 where it is refused.
-#[derive(Drop)]
+#[derive(Clone, Copy)]
 pub struct Writing {
     pub answer: WriteAnswer,
     pub length: usize,

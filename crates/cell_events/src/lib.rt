@@ -1,5 +1,7 @@
 // The events and the drain at a cell in the bytes of a host. Its frame and its jobs are read from there, its stages are lent where they lie, and all of
 // it is asked at each call.
+#![tactic(auto)]
+
 ghost use Rattle.std.specs.Prelude.{◌≡◌};
 ghost use Rattle.cell_layout.specs.HostAnswers.{packed, event_answer, event_cell, drain_answer, drain_cell};
 

@@ -1,4 +1,5 @@
 // A cell in the bytes of a host: where its parts begin, each behind the one before it. Their meaning is defined in specs/, and nothing runs here.
+#![tactic(auto)]
 
 pub const RESOURCES: usize = 0;
 

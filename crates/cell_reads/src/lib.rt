@@ -1,5 +1,7 @@
 // The frame of the plan and the job list that lie in the bytes of a host; the stages are lent where they lie. Any bytes hold some: whether they are
 // sound and agree is asked by whoever uses them.
+#![tactic(auto)]
+
 ghost use Rattle.std.specs.Prelude.{◌≡◌, length};
 ghost use Rattle.model.specs.Limits.{max_rows};
 ghost use Rattle.events.specs.JobList.{empty_list};

@@ -1,4 +1,6 @@
 // A plan and a job list, written into the bytes of a host.
+#![tactic(auto)]
+
 ghost use Rattle.std.specs.Prelude.{◌≡◌, ◌+◌, ◌≤◌, ◌%◌, [], length, take};
 ghost use Rattle.plan_bytes.specs.Over.{plan_read, plan_over};
 ghost use Rattle.moves_text.specs.Buffer.{overlaid_at};

@@ -1,5 +1,7 @@
 // `celldesk PLAN`: the plan text in a file, event lines on standard input, and each answered as soon as its LF is there. What is put is `desk_read`'s and
 // `desk_line`'s; here it is read and written.
+#![tactic(auto)]
+
 use desk_held::start_desk;
 use desk_line::reply_at_end;
 use desk_read::answer_read;

@@ -1,5 +1,7 @@
 // `cellmoves`: a plan and events on standard input, answers on standard output. What is printed is `moves_run`'s, and what a person
 // is told of a refused plan, on standard error, is that of `tell_plan`.
+#![tactic(auto)]
+
 use libc::{STDERR_FILENO, STDIN_FILENO, STDOUT_FILENO};
 use moves_run::{ENOUGH, answer_input};
 use read_lines::part_of;

@@ -1,5 +1,7 @@
 // `cellplan`: a plan text on standard input, its canonical form on standard output. What is printed is `write_canonical`'s, and what a person is
 // told of a refused text, on standard error, is that of `tell_plan`.
+#![tactic(auto)]
+
 use libc::{STDERR_FILENO, STDIN_FILENO, STDOUT_FILENO};
 use read_lines::part_of;
 use tell_plan::text_message;

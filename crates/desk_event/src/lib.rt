@@ -1,4 +1,6 @@
 // An event at the desk: the answer at the table that is lent for it, and what a person is told of a refusal.
+#![tactic(auto)]
+
 ghost use Rattle.std.proofs.Math.Option.{some};
 ghost use Rattle.std.specs.Prelude.{◌≡◌, ◌≤◌, length};
 ghost use Rattle.events.specs.Events.{answer, answer_numbers};

@@ -1,5 +1,7 @@
 // What the desk keeps: the line that is held until its LF comes, with more bytes, and what it then means; and the desk before the first line and
 // after a line.
+#![tactic(auto)]
+
 ghost use Rattle.std.specs.Prelude.{◌≡◌};
 ghost use Rattle.desk_text.specs.HeldLine.{no_line, held_with, held_means};
 ghost use Rattle.desk_text.specs.Desk.{start_desk, desk_with};

@@ -1,5 +1,7 @@
 // A whole line at the desk: an event or a malformed line is answered, and a person is told of a refusal; and the line that is held when the
 // input ends.
+#![tactic(auto)]
+
 ghost use Rattle.std.specs.Prelude.{◌≡◌, ◌≤◌, length};
 ghost use Rattle.plan_bytes.specs.Over.{plan_over};
 ghost use Rattle.moves_text.specs.Buffer.{overlaid, overlaid_at};

@@ -1,4 +1,6 @@
 // The step of `celldesk`: what is put of a read. The rest of the program reads and writes.
+#![tactic(auto)]
+
 ghost use Rattle.std.specs.Prelude.{◌≡◌, ◌≤◌, length, take};
 ghost use Rattle.plan_bytes.specs.Over.{plan_over};
 ghost use Rattle.moves_text.specs.Buffer.{overlaid};

@@ -2,4 +2,3 @@
 pub mod HeldLines
 pub mod EveryCut
 pub mod ReadSteps
-pub mod Arrays

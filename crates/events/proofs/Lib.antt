@@ -6,5 +6,4 @@ pub mod Excess
 pub mod Moves
 pub mod Drain
 -- What serves the proofs of code: the length of a job list's array, and what a branch on an answer knows.
-pub mod Arrays
 pub mod AnswerTags

@@ -1,15 +1,17 @@
 // The jobs of a table, the events and the drain as values. What is answered is defined in specs/, and nothing runs here.
+#![tactic(auto)]
+
 use model::Job;
 
 // The active jobs in the order they were loaded; zeros beyond `count`. A table is this list with its methods.
-#[derive(Drop)]
+#[derive(Clone, Copy)]
 pub struct JobList {
     pub count: usize,
     pub jobs: [Job; 64],
 }
 
 // What may happen to a job. Any number may stand in an event.
-#[derive(Drop)]
+#[derive(Clone, Copy)]
 pub enum Event {
     Load { job: u32, kind: u32 },
     Advance(u32),
@@ -18,7 +20,7 @@ pub enum Event {
 }
 
 // What an event is answered; its numbers are `answerNumbers` of specs/Events.
-#[derive(Drop)]
+#[derive(Clone, Copy)]
 pub enum Answer {
     Admitted,
     UnsoundPlan,
@@ -33,14 +35,14 @@ pub enum Answer {
 }
 
 // The answer to an event with the list afterwards.
-#[derive(Drop)]
+#[derive(Clone, Copy)]
 pub struct ListOutcome {
     pub answer: Answer,
     pub list: JobList,
 }
 
 // How a drain ends; its number is `endNumber` of specs/Drain.
-#[derive(Drop)]
+#[derive(Clone, Copy)]
 pub enum End {
     Emptied,
     UnsoundPlan,
@@ -50,7 +52,7 @@ pub enum End {
 }
 
 // The end of a drain with the moves made and the list afterwards.
-#[derive(Drop)]
+#[derive(Clone, Copy)]
 pub struct ListDrained {
     pub end: End,
     pub moves: u32,

@@ -1,16 +1,18 @@
 // What the parts of the entrances hand each other, as values. What they compute is defined in specs/, and nothing runs here.
+#![tactic(auto)]
+
 use events::Answer;
 use model::Job;
 
 // The units held of each resource and the sum of each row; entry i is resource or row i + 1.
-#[derive(Drop)]
+#[derive(Clone, Copy)]
 pub struct Sums {
     pub units: [u16; 32],
     pub rows: [u16; 32],
 }
 
 // What the sums are held against: the capacities, in 16 bits each, and the bounds.
-#[derive(Drop)]
+#[derive(Clone, Copy)]
 pub struct Ceilings {
     pub capacity: [u16; 32],
     pub bound: [u16; 32],
@@ -18,14 +20,14 @@ pub struct Ceilings {
 
 // The row exceeded by the most, of equals the lowest, and its excess, which is its sum less its bound; 0 and 0 where every row is kept. The excess
 // is 16,320 at most, of 64 jobs of weight 255 where the bound is 0; 32 bits hold that of any sums.
-#[derive(Drop)]
+#[derive(Clone, Copy)]
 pub struct WorstRow {
     pub row: u32,
     pub excess: u32,
 }
 
 // Where the job with a number stands, counted from 0, and the job; the count and no job where none has the number.
-#[derive(Drop)]
+#[derive(Clone, Copy)]
 pub struct Found {
     pub at: usize,
     pub job: Job,
@@ -33,7 +35,7 @@ pub struct Found {
 
 // What is asked of a job's stage, question 17: that there is a next one, for an advance; that it is the last, for an unload; and nothing,
 // for a pull.
-#[derive(Drop)]
+#[derive(Clone, Copy)]
 pub enum StageAsked {
     Next,
     Last,
@@ -41,7 +43,7 @@ pub enum StageAsked {
 }
 
 // The answer to questions 11 and 12 and, where both are met, the sums over the jobs and what they are held against.
-#[derive(Drop)]
+#[derive(Clone, Copy)]
 pub struct Agreement {
     pub answer: Answer,
     pub sums: Sums,
@@ -49,7 +51,7 @@ pub struct Agreement {
 }
 
 // What an admitted event does to a list: a job comes last, another stands at a position, the one at a position goes. A refused one does nothing.
-#[derive(Drop)]
+#[derive(Clone, Copy)]
 pub enum Change {
     Nothing,
     Added(Job),
@@ -58,7 +60,7 @@ pub enum Change {
 }
 
 // The answer to an event, and what it does to the list.
-#[derive(Drop)]
+#[derive(Clone, Copy)]
 pub struct Judgement {
     pub answer: Answer,
     pub change: Change,

@@ -10,4 +10,3 @@ pub mod Progress
 -- What serves the proofs of code: how loops end, flags of chained tests and of loops, and the lengths of a plan's arrays.
 pub mod Search
 pub mod Flags
-pub mod Arrays

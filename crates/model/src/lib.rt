@@ -1,7 +1,8 @@
 // The plan of a cell and the jobs in it, as values: any bit pattern may come in, and soundness is asked, not assumed.
+#![tactic(auto)]
 
 // What one stage demands of each resource and weighs in each row; entry i is resource or row i + 1.
-#[derive(Drop)]
+#[derive(Clone, Copy)]
 pub struct Stage {
     pub demand: [u8; 32],
     pub weight: [u8; 32],
@@ -9,7 +10,7 @@ pub struct Stage {
 
 // Counts, then what is kept per resource, per row and per type; 0 beyond the counts. A rank of 0 is no rank.
 // `lengths` has the stages of each type, and `stages` all of them, type by type.
-#[derive(Drop)]
+#[derive(Clone, Copy)]
 pub struct Plan {
     pub resources: u8,
     pub types: u8,
@@ -22,7 +23,7 @@ pub struct Plan {
 }
 
 // A job: its number, its type (`type` is a word of the language) and its stage, each counted from 1.
-#[derive(Drop)]
+#[derive(Clone, Copy)]
 pub struct Job {
     pub number: u32,
     pub kind: u32,
@@ -30,7 +31,7 @@ pub struct Job {
 }
 
 // What the upstream check answers; its numbers are `checkNumbers` of specs/Upstream.
-#[derive(Drop)]
+#[derive(Clone, Copy)]
 pub enum Check {
     Meets,
     UnsoundPlan,

@@ -1,4 +1,6 @@
 // The lines about a plan, put into a buffer: `P`, and `Q` where it was accepted.
+#![tactic(auto)]
+
 ghost use Rattle.std.specs.Prelude.{◌≡◌, length};
 ghost use Rattle.moves_text.specs.OutputLines.{about_check, about_text};
 ghost use Rattle.moves_text.specs.Buffer.{overlaid, overlaid_at};

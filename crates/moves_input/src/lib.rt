@@ -1,4 +1,6 @@
 // The lines of an input of `cellmoves`: where its plan ends, and what an event line says.
+#![tactic(auto)]
+
 ghost use Rattle.std.specs.Prelude.{◌≡◌};
 ghost use Rattle.moves_text.specs.Division.{is_mark, plan_length};
 ghost use Rattle.moves_text.specs.EventLines.{event_with, event_in};

@@ -1,4 +1,6 @@
 // The whole run of `cellmoves`: from the bytes of an input to the bytes that are printed.
+#![tactic(auto)]
+
 ghost use Rattle.std.specs.Prelude.{◌≡◌, ◌+◌, ◌≤◌, length};
 ghost use Rattle.events.specs.JobList.{empty_list};
 ghost use Rattle.plan_bytes.specs.Over.{plan_over};

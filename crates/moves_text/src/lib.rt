@@ -1,9 +1,11 @@
 // The text of `cellmoves` as values: what an event line says. What its input means and what is printed is defined in specs/,
 // and nothing runs here.
+#![tactic(auto)]
+
 use events::Event;
 
 // A line after the `E`: skipped, of no known form (41), or an event.
-#[derive(Drop)]
+#[derive(Clone, Copy)]
 pub enum EventLine {
     Skipped,
     Malformed,

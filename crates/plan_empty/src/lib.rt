@@ -1,4 +1,6 @@
 // The frame of the empty plan, from which a plan is filled in.
+#![tactic(auto)]
+
 ghost use Rattle.std.specs.Prelude.{◌≡◌};
 ghost use Rattle.plan_bytes.specs.Over.{empty_frame};
 

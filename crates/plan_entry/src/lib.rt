@@ -1,4 +1,6 @@
 // An entry of a list by its number, counted from 1: read, and written. Any number may be asked.
+#![tactic(auto)]
+
 ghost use Rattle.std.specs.Prelude.{◌≡◌, ◌-◌};
 ghost use Rattle.model.specs.Numbers.{at};
 ghost use Rattle.plan_text.specs.Draft.{put};

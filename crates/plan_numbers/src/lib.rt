@@ -1,5 +1,7 @@
 // The published number and places of each answer of the upstream check, and the number of each answer to a plan text and to the writing of
 // one, for whoever prints them.
+#![tactic(auto)]
+
 ghost use Rattle.std.specs.Prelude.{◌≡◌};
 ghost use Rattle.model.specs.Upstream.{check_numbers};
 ghost use Rattle.plan_text.specs.TextQuestions.{text_number};

@@ -1,5 +1,7 @@
 // Where the stages of a type stand in a plan, by the stages of each type, and what a stage demands and weighs, by its index. Any type,
 // stage, index and bytes may be asked.
+#![tactic(auto)]
+
 ghost use Rattle.std.specs.Prelude.{◌≡◌, ◌+◌, ◌-◌, ◌*◌, ◌≤◌, length};
 ghost use Rattle.model.specs.Numbers.{at, sum_to};
 ghost use Rattle.plan_bytes.specs.Over.{bytes_from, stage_at};

@@ -1,11 +1,13 @@
 // The plan text as values: a record of it, and what reading it answers. What a text means is defined in specs/, and nothing
 // runs here.
+#![tactic(auto)]
+
 use model::Plan;
 use plan_bytes::Frame;
 
 // Where the line that begins at an offset of a text ends, where the next begins, whether it has its LF, and whether the text was at
 // its end, so that there is none.
-#[derive(Drop)]
+#[derive(Clone, Copy)]
 pub struct LineSpan {
     pub end: usize,
     pub next: usize,
@@ -15,7 +17,7 @@ pub struct LineSpan {
 
 // A record: the section of its letter, 1 to 7 in the order C, R, T, S, B, A, K, and its numbers in the order of the fields, 0
 // where it has no such field. Section 0 is no record: a skipped line.
-#[derive(Drop)]
+#[derive(Clone, Copy)]
 pub struct Record {
     pub section: u32,
     pub first: u32,
@@ -25,14 +27,14 @@ pub struct Record {
 }
 
 // The fields of a line, read as numbers: how many there are, 5 where one is no number or there is a fifth, and their numbers.
-#[derive(Drop)]
+#[derive(Clone, Copy)]
 pub struct Fields {
     pub count: usize,
     pub numbers: [u32; 4],
 }
 
 // What a plan text is answered; its numbers are `textNumber` of specs/TextQuestions.
-#[derive(Drop)]
+#[derive(Clone, Copy)]
 pub enum TextAnswer {
     Accepted,
     TooLong,
@@ -45,14 +47,14 @@ pub enum TextAnswer {
 }
 
 // The answer to questions 2 to 4 of a line, and its record where they are met.
-#[derive(Drop)]
+#[derive(Clone, Copy)]
 pub struct Form {
     pub answer: TextAnswer,
     pub read: Record,
 }
 
 // The counts of a plan, as its C says them.
-#[derive(Drop)]
+#[derive(Clone, Copy)]
 pub struct Counts {
     pub resources: u8,
     pub types: u8,
@@ -60,7 +62,7 @@ pub struct Counts {
 }
 
 // What records say beside the lists of a plan: its counts, and the section of the last record, 0 for none.
-#[derive(Drop)]
+#[derive(Clone, Copy)]
 pub struct Head {
     pub counts: Counts,
     pub section: u32,
@@ -68,7 +70,7 @@ pub struct Head {
 
 // The answer with the line that decides it, counted from 1, where that line stands in the text, from its first byte up to but not
 // including its LF, and the plan; the empty plan where the text is refused. It is the meaning, and no code makes one.
-#[derive(Drop)]
+#[derive(Clone, Copy)]
 pub struct Reading {
     pub answer: TextAnswer,
     pub line: u32,
@@ -78,7 +80,7 @@ pub struct Reading {
 }
 
 // The same as it runs: the plan by its frame and the bytes of its stages, which are zeros where the text is refused.
-#[derive(Drop)]
+#[derive(Clone, Copy)]
 pub struct FramedReading {
     pub answer: TextAnswer,
     pub line: u32,

@@ -1,4 +1,6 @@
 // The upstream check of a plan whose stages are lent: its questions in order, each asked by a search that leaves at the lowest fault.
+#![tactic(auto)]
+
 ghost use Rattle.std.specs.Prelude.{◌≡◌, drop};
 ghost use Rattle.model.specs.Plan.{all_stages};
 ghost use Rattle.model.specs.Questions.{answer_of};

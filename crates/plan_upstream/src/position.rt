@@ -5,7 +5,7 @@ ghost use Rattle.plan_upstream.specs.CheckInternals.{Stands};
 use arithmetic::u8_to_usize;
 
 // A stage by its type and its number, each counted from 0.
-#[derive(Drop)]
+#[derive(Clone, Copy)]
 pub(crate) struct Position {
     pub kind: usize,
     pub stage: usize,

@@ -7,7 +7,7 @@ use plan_bytes::Frame;
 use plan_upstream_stage::{lowest_rank, one_unit};
 
 // The first entry of the stages, by its index, that does not demand one unit, and the lowest ranks that those before it demand.
-#[derive(Drop)]
+#[derive(Clone, Copy)]
 pub(crate) struct Units {
     pub other: usize,
     pub ranks: [u16; 128],

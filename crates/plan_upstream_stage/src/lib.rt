@@ -1,5 +1,7 @@
 // What the upstream check asks of one stage: does it demand one unit, what is the lowest rank that it demands, and what weight
 // is due to it in a row? Its demands are lent, by any count of them: nothing is demanded beyond.
+#![tactic(auto)]
+
 ghost use Rattle.std.specs.Prelude.{◌≡◌, min, eqb};
 ghost use Rattle.model.specs.Numbers.{at, sum_to};
 ghost use Rattle.plan_upstream_stage.specs.Due.{rank_if, lowest_rank, due_by};

@@ -1,4 +1,6 @@
 // What a record writes into a plan: one entry of a list, or of a stage, or the counts. Any record may be handed in.
+#![tactic(auto)]
+
 ghost use Rattle.std.specs.Prelude.{◌≡◌, ◌%◌};
 ghost use Rattle.plan_text.specs.Draft.{entries_after, bounded_after};
 ghost use Rattle.plan_text.specs.ReaderInternals.{narrowed, counts_after, head_after};

@@ -1,4 +1,6 @@
 // A line of text: is it skipped, its letter, its fields and their numbers.
+#![tactic(auto)]
+
 ghost use Rattle.std.specs.Prelude.{◌≡◌};
 ghost use Rattle.plan_text.specs.Lines.{is_skipped, columns, letter_in, letter_byte, fields_in};
 ghost use Rattle.plan_text.specs.RecordTests.{fields_read};

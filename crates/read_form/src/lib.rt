@@ -1,4 +1,6 @@
 // The form of a line of the plan text: its bytes, its letter and the count of its fields; questions 2 to 4.
+#![tactic(auto)]
+
 ghost use Rattle.std.specs.Prelude.{◌≡◌, ◌&&◌};
 ghost use Rattle.model.specs.Numbers.{each};
 ghost use Rattle.plan_text.specs.Lines.{is_plain, columns, letter_in};

@@ -1,5 +1,7 @@
 // What a plan so far has under the key of a record, and questions 5 and 6 by it. A plan is handed in by its parts, and any record
 // may be.
+#![tactic(auto)]
+
 ghost use Rattle.std.specs.Prelude.{◌≡◌, ℕ, leb};
 ghost use Rattle.model.specs.Numbers.{at, all_to};
 ghost use Rattle.plan_bytes.specs.Over.{stage_in};

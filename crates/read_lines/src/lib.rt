@@ -1,4 +1,6 @@
 // The lines of a text, found in this crate alone: where the line that begins at an offset ends, a part of a text, and the line reader.
+#![tactic(auto)]
+
 ghost use Rattle.std.specs.Prelude.{◌≡◌};
 ghost use Rattle.plan_text.specs.LineReading.{span_from};
 ghost use Rattle.plan_text.specs.TextParts.{IsPart};
@@ -51,7 +53,7 @@ pub struct LineReader<'a> {
 }
 
 // A line without its LF, as a part of the text; whether it had one; and whether the text was at its end, so that there is no line.
-#[derive(Drop)]
+#[derive(Clone, Copy)]
 pub struct TextLine<'a> {
     pub bytes: &'a [u8],
     pub ended: bool,

@@ -1,4 +1,6 @@
 // The n-th line of a text, found by the line reader.
+#![tactic(auto)]
+
 ghost use Rattle.plan_text.specs.NthLine.{IsNth};
 
 use read_lines::{LineReader, part_of};

@@ -1,5 +1,7 @@
 // The reader of plan texts, and the line that a refusal is about. One pass over the lines: a line's questions are answered from the counts, the
 // capacities, the stages per type and the one entry that it names, and its record writes that entry.
+#![tactic(auto)]
+
 ghost use Rattle.std.specs.Prelude.{[], ◌≡◌, ◌+◌, ◌-◌, ◌*◌, ◌<◌, ◌≤◌, ltb, length, take, drop};
 ghost use Rattle.plan_bytes.specs.Over.{plan_over};
 ghost use Rattle.plan_text.specs.Lines.{lines_of};

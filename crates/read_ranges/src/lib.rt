@@ -1,4 +1,6 @@
 // The ranges of a record's numbers: one table of the seven sections, and the test that reads it.
+#![tactic(auto)]
+
 ghost use Rattle.std.specs.Prelude.{◌≡◌, length};
 ghost use Rattle.plan_text.specs.Records.{layout_of};
 ghost use Rattle.plan_text.specs.RecordTests.{in_ranges};

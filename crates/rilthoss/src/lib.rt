@@ -1,5 +1,7 @@
 // The library that a host links: the whole run of `cellmoves`, and a cell that lives in the host's bytes. Every function takes any
 // bytes and any numbers; what a cell holds is asked at each call.
+#![tactic(auto)]
+
 ghost use Rattle.std.specs.Prelude.{◌≡◌, ◌≤◌};
 ghost use Rattle.moves_text.specs.Output.{output};
 ghost use Rattle.moves_text.specs.Buffer.{filled, length_filled};

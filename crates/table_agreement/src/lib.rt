@@ -1,4 +1,6 @@
 // Does a job list agree with a plan: questions 11 and 12, which every event and the drain ask first.
+#![tactic(auto)]
+
 ghost use Rattle.std.specs.Prelude.{◌≡◌, not, ℕ, ◌≤◌, eqb};
 ghost use Rattle.model.specs.Numbers.{in_range, each};
 ghost use Rattle.model.specs.Soundness.{zero_beyond};

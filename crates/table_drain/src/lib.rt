@@ -1,4 +1,6 @@
 // The drain of a job list: the earliest loaded job whose move is admitted moves, as long as there is budget.
+#![tactic(auto)]
+
 ghost use Rattle.std.specs.Prelude.{◌≡◌, ◌≤◌, ◌<◌, get_or};
 ghost use Rattle.model.specs.Limits.{max_stages, max_jobs};
 ghost use Rattle.model.specs.Soundness.{Sound};

@@ -1,4 +1,6 @@
 // The events at a job list that is lent: the questions in their order, and what an admitted event does to the list.
+#![tactic(auto)]
+
 ghost use Rattle.std.specs.Prelude.{◌≡◌};
 ghost use Rattle.events.specs.Events.{list_outcome};
 ghost use Rattle.plan_bytes.specs.Over.{plan_over};

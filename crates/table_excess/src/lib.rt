@@ -1,5 +1,7 @@
 // By how much an event would exceed a row. As in question 19 one stage is exchanged for another in the sums over the jobs, but no question need be met, and any
 // row may be asked.
+#![tactic(auto)]
+
 ghost use Rattle.std.specs.Prelude.{◌≡◌, ◌+◌, ◌-◌};
 ghost use Rattle.model.specs.Numbers.{at};
 ghost use Rattle.events.specs.JobList.{jobs_of};
@@ -17,7 +19,7 @@ use table_jobs::{laid, look_up};
 use table_sums::{above_ceiling, index_of, sums_of};
 
 // Where the stages stand that an event gives back and takes, counted from 0; 128 for none.
-#[derive(Drop)]
+#[derive(Clone, Copy)]
 pub(crate) struct Exchange {
     pub old: usize,
     pub new: usize,

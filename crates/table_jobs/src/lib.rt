@@ -1,5 +1,7 @@
 // The job list as numbers, three a slot, as an event asks it; the job with a number there; and the job list after a job is added, replaced or taken
 // out. Any list may be handed in.
+#![tactic(auto)]
+
 ghost use Rattle.std.specs.Prelude.{◌≡◌, min, get_or};
 ghost use Rattle.model.specs.Limits.{max_jobs};
 ghost use Rattle.model.specs.Jobs.{no_job};

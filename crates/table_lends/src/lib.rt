@@ -1,4 +1,6 @@
 // A caller's own table, lent to `apply` for one event: callers hand over a table by value and need no proof by hand.
+#![tactic(auto)]
+
 ghost use Rattle.std.specs.Prelude.{◌≡◌};
 ghost use Rattle.plan_bytes.specs.Over.{plan_over};
 ghost use Rattle.admission.specs.Table.{outcome};

@@ -1,5 +1,7 @@
 // The table lent: an event is answered, and its outcome written into the host's own table. `decided` does the work and is
 // covered; `apply`, which is lent the table, is proved by hand.
+#![tactic(auto)]
+
 ghost use Rattle.std.specs.Prelude.{◌≡◌};
 ghost use Rattle.plan_bytes.specs.Over.{plan_over};
 ghost use Rattle.admission.specs.Table.{outcome};
@@ -11,7 +13,7 @@ use plan_bytes::Frame;
 use table_numbers::answer_number;
 
 // The answer to an event, whether the table is written, and the table that is then written.
-#[derive(Drop)]
+#[derive(Clone, Copy)]
 struct Decision {
     answer: Answer,
     writes: bool,

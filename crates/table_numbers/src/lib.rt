@@ -1,4 +1,6 @@
 // The published number and place of each answer to an event, and the number of each end of a drain, for whoever prints them.
+#![tactic(auto)]
+
 ghost use Rattle.std.specs.Prelude.{◌≡◌};
 ghost use Rattle.events.specs.Events.{answer_numbers};
 ghost use Rattle.events.specs.Drain.{end_number};

@@ -1,5 +1,7 @@
 // Questions 13 to 17 by numbers that the code has at hand: what was answered before, the count of jobs, where the search for the
 // job number ended.
+#![tactic(auto)]
+
 ghost use Rattle.std.specs.Prelude.{◌≡◌};
 ghost use Rattle.model.specs.Numbers.{in_range};
 ghost use Rattle.internals.specs.Internals.{stage_meets, active_answer, load_answer};

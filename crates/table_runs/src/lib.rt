@@ -1,4 +1,6 @@
 // A whole list of events run through the entrances, by their contracts alone.
+#![tactic(auto)]
+
 ghost use Rattle.std.specs.Prelude.{◌≡◌, cond};
 ghost use Rattle.events.specs.Events.{is_admitted};
 ghost use Rattle.plan_bytes.specs.Over.{plan_over};
@@ -10,7 +12,7 @@ use plan_bytes::Frame;
 use table_numbers::answer_number;
 
 // The table after a list of events, and how many were admitted.
-#[derive(Drop)]
+#[derive(Clone, Copy)]
 pub struct Ran {
     pub table: Table,
     pub admitted: usize,

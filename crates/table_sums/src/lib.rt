@@ -1,5 +1,7 @@
 // What the jobs hold: the units of each resource and the sum of each row; and the two tests of them, 18 and 19, once one
 // stage is exchanged for another in one act. All 32 entries are summed and tested: beyond a sound plan's counts they are 0.
+#![tactic(auto)]
+
 ghost use Rattle.std.specs.Prelude.{◌≡◌, ◌+◌, ◌-◌, min};
 ghost use Rattle.model.specs.Limits.{max_jobs};
 ghost use Rattle.events.specs.JobList.{jobs_of};

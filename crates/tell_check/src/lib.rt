@@ -1,4 +1,6 @@
 // What a person is told of an accepted plan that does not meet the upstream rule, in one line.
+#![tactic(auto)]
+
 ghost use Rattle.std.specs.Prelude.{◌≡◌, length};
 ghost use Rattle.told_text.specs.PlanMessage.{check_message_with, check_message};
 ghost use Rattle.moves_text.specs.Buffer.{overlaid};

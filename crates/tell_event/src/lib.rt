@@ -1,4 +1,6 @@
 // What a person is told of a refused event and of a malformed line, in one line each.
+#![tactic(auto)]
+
 ghost use Rattle.std.specs.Prelude.{◌++◌, ◌≡◌, ◌≤◌, length};
 ghost use Rattle.moves_text.specs.Buffer.{overlaid_at};
 ghost use Rattle.told_text.specs.Words.{words_of};

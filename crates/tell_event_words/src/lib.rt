@@ -1,5 +1,7 @@
 // What the numbers of an event, of the upstream check, of a drain and of a line mean, in words, put into a buffer from an offset of it on: a
 // few numbers to a function, and another number by the next.
+#![tactic(auto)]
+
 ghost use Rattle.std.specs.Prelude.{◌≡◌, length, drop};
 ghost use Rattle.told_text.specs.Words.{event_words, words_in};
 ghost use Rattle.moves_text.specs.Buffer.{overlaid_at};

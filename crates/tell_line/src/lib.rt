@@ -1,4 +1,6 @@
 // What a person is told of a refused line of a plan text, in one line.
+#![tactic(auto)]
+
 ghost use Rattle.std.specs.Prelude.{◌≡◌, map, ◌≤◌, length};
 ghost use Rattle.plan_text.specs.NthLine.{nth_line};
 ghost use Rattle.told_text.specs.PlanMessage.{visible, shown_after, message_with};

@@ -1,5 +1,7 @@
 // The parts of what a person is told that have a number in them: which line or event, and the place of an answer, put into a buffer from
 // an offset of it on.
+#![tactic(auto)]
+
 ghost use Rattle.std.specs.Prelude.{◌≡◌, ◌++◌, ◌≤◌, length};
 ghost use Rattle.moves_text.specs.Decimals.{decimal};
 ghost use Rattle.moves_text.specs.Buffer.{overlaid_at};

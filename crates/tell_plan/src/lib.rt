@@ -1,4 +1,6 @@
 // What a person is told of a plan, in one line: as much of it as fits, and the length of all of it.
+#![tactic(auto)]
+
 ghost use Rattle.std.specs.Prelude.{◌≡◌, length};
 ghost use Rattle.told_text.specs.PlanMessage.{text_message, plan_message, message};
 ghost use Rattle.moves_text.specs.Buffer.{overlaid};

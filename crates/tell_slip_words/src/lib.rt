@@ -1,4 +1,6 @@
 // What is said of a slip, put into a buffer from an offset of it on.
+#![tactic(auto)]
+
 ghost use Rattle.std.specs.Prelude.{◌≡◌, length};
 ghost use Rattle.told_text.specs.Slips.{slip_words};
 ghost use Rattle.moves_text.specs.Buffer.{overlaid_at};

@@ -1,4 +1,6 @@
 // The common slips in a line that is refused for its form.
+#![tactic(auto)]
+
 ghost use Rattle.std.specs.Prelude.{◌≡◌, ◌&&◌, leb};
 ghost use Rattle.plan_text.specs.Lines.{columns, letter_in};
 ghost use Rattle.told_text.specs.Slips.{has_byte, ends_in_return, tabs_in, count_slip, line_slip, letter_slip, fields_slip, plan_slip, event_fields, event_slip};

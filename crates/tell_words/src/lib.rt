@@ -1,4 +1,6 @@
 // What each published number means, in words, put into a buffer from an offset of it on.
+#![tactic(auto)]
+
 ghost use Rattle.std.specs.Prelude.{◌≡◌, length, drop};
 ghost use Rattle.told_text.specs.Words.{worded, words_in, words_of};
 ghost use Rattle.moves_text.specs.Buffer.{overlaid_at};

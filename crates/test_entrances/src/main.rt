@@ -9,6 +9,8 @@
 //
 // Nothing is asked of what is set: a number is taken modulo what its field holds, and an index modulo its array. A missing
 // number is 0, and a line with another letter does nothing. Input beyond 65,536 bytes is not read.
+#![tactic(auto)]
+
 mod ask;
 mod dotted;
 mod line;

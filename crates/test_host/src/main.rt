@@ -1,6 +1,8 @@
 // A host that holds both forms: a line reader over its text, and a table of its own, which it lends for each event. Standard input is
 // an input of `cellmoves`. Of each line after the `E` it writes the line, LF or cut, the answer, its place and the jobs then active.
 // A line that says no event is asked as a load of number 0, which is refused.
+#![tactic(auto)]
+
 use admission::Table;
 use events::{Answer, Event};
 use libc::{STDIN_FILENO, STDOUT_FILENO};

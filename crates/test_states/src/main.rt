@@ -2,6 +2,8 @@
 // state's number in Table 1 there, its six counts of jobs, the sums of the three rows, and 1 or 0 for whether all rows are
 // kept and whether some order of moves empties it. The last line has totals: the states reached, those that Table 1 lacks,
 // those that are blocked, those that can be emptied, and those that can be emptied exactly if they keep the rows.
+#![tactic(auto)]
+
 use libc::STDOUT_FILENO;
 
 mod emptying;

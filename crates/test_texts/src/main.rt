@@ -7,6 +7,8 @@
 // A case is a plan text; where a + stands before its name, it is an input. A line whose name is > says what the texts of the cases
 // below it begin with. Empty lines and lines that begin with # are skipped. Input beyond 65,536 bytes is not read. What is written
 // of a plan text is in show.rt and plan.rt, what is written of an input in inputs.rt.
+#![tactic(auto)]
+
 mod checksum;
 mod inputs;
 mod lent;

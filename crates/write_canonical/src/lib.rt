@@ -1,4 +1,6 @@
 // What `cellplan` prints: a plan text in its canonical form.
+#![tactic(auto)]
+
 ghost use Rattle.std.specs.Prelude.{◌≡◌};
 ghost use Rattle.moves_text.specs.OutputLines.{plan_line};
 ghost use Rattle.moves_text.specs.Buffer.{filled, length_filled};

@@ -1,5 +1,7 @@
 // The records of a list's entries, put into a buffer from an offset of it on: those of R, T and K, of S at one stage, of A in one row
 // for one type, and of B.
+#![tactic(auto)]
+
 ghost use Rattle.std.specs.Prelude.{◌≡◌, ◌*◌, ◌≤◌, length};
 ghost use Rattle.moves_text.specs.Buffer.{overlaid_at};
 ghost use Rattle.canonical_text.specs.CanonicalText.{valued, entry_records, bound_records, text_of};

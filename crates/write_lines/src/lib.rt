@@ -1,5 +1,7 @@
 // Text, numbers and the lines of the output of `cellmoves`, put into a buffer from an offset of it on. What does not fit is left
 // out, and the length is that of the whole: so a buffer of no bytes measures.
+#![tactic(auto)]
+
 ghost use Rattle.std.specs.Prelude.{◌≡◌, ◌∷◌, [], ◌++◌, ◌+◌, ◌≤◌, length};
 ghost use Rattle.moves_text.specs.Decimals.{decimal};
 ghost use Rattle.moves_text.specs.OutputLines.{plan_line, check_line, event_line};

@@ -1,4 +1,6 @@
 // The writer of plan texts: one pass measures the canonical text and another writes it, both by the same function.
+#![tactic(auto)]
+
 ghost use Rattle.std.specs.Prelude.{[], ◌≡◌, ◌≤◌, length};
 ghost use Rattle.plan_text.specs.Meaning.{line};
 ghost use Rattle.moves_text.specs.Buffer.{overlaid};

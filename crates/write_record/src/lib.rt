@@ -1,4 +1,6 @@
 // A record's line, put into a buffer from an offset of it on. What does not fit is left out, and the length is that of the whole.
+#![tactic(auto)]
+
 ghost use Rattle.std.specs.Prelude.{◌≡◌, ◌++◌, ◌+◌, ◌≤◌, length, take};
 ghost use Rattle.model.specs.Numbers.{entry};
 ghost use Rattle.plan_text.specs.Records.{letters};

@@ -1,5 +1,7 @@
 // The records of a plan's demands and of its weights, S and A, put into a buffer from an offset of it on. Any frame and any bytes may be
 // handed in: nothing is demanded and nothing weighed where there is no stage.
+#![tactic(auto)]
+
 ghost use Rattle.std.specs.Prelude.{◌≡◌, ◌*◌, ◌≤◌, length};
 ghost use Rattle.model.specs.Numbers.{at};
 ghost use Rattle.moves_text.specs.Buffer.{overlaid_at};
