@@ -45,7 +45,7 @@ module _ (p : Plan) (t k : ℕ) where
       go s (suc k) h = let e : s + suc k ≡ suc (s + (suc k - 1)) = omega arith in rw e refl
 
   pub stage_named : IsStage p t k → stage_of p t k ≡ get_or p.stages (stage_index p.lengths t k) no_stage
-  stage_named h = flat.stage_at p t k h ∙ entry_index h.1.0
+  stage_named h = flat.stage_at_lem p t k h ∙ entry_index h.1.0
 
 module _ (p : Plan) (whole : length p.stages ≡ max_all_stages) (t k : ℕ) where
   abbrev index : ℕ
@@ -78,7 +78,7 @@ module _ (p : Plan) (sound : Sound p) (t k : ℕ) (stage : IsStage p t k) where
   index_within = flat.index_within p sound t k stage (stage_index p.lengths t k) counted
 
   pub stage_read : (d : Stage) → length p.stages ≡ max_all_stages → get_or p.stages (stage_index p.lengths t k) d ≡ stage_of p t k
-  stage_read = flat.stage-there p sound t k stage (stage_index p.lengths t k) counted
+  stage_read = flat.stage_there p sound t k stage (stage_index p.lengths t k) counted
 
 -- the stage of a job and the next one, where the code reads them
 module _ (p : Plan) (sound : Sound p) (j : Job) (staged : AtStage p j) (more : HasNext p j) where

@@ -305,7 +305,7 @@ pub found_at : (rs : List Record) (d : Draft) → Kept rs d → (r : Record) →
     → IsStage d.plan (type_named r) (stage_named r) → stage_here d.plan r ≡ stage_of d.plan (type_named r) (stage_named r)
 found_at rs d kept r e there =
     ap (λ i. get_or d.plan.stages i no_stage) (written_at d r e)
-    ∙ sym (stages.stage-here d.plan (type_named r) (stage_named r) there kept.total kept.sizes.stages no_stage)
+    ∙ sym (stages.stage_here d.plan (type_named r) (stage_named r) there kept.total kept.sizes.stages no_stage)
 
 module _ (rs : List Record) (d : Draft) (kept : Kept rs d) (r : Record) (taken : Taken rs d r) where
   -- the stage that S or A names is one of the plan
@@ -324,18 +324,18 @@ module _ (rs : List Record) (d : Draft) (kept : Kept rs d) (r : Record) (taken :
   total_same a b = rw (ne_eqb r.section 1 a, ne_eqb r.section 3 b) refl
 
   -- S and A write at the stage that they name, and all else stays
-  others_stay : (r.section ≡ 4) ⊎ (r.section ≡ 6) → (draft_after d r).plan ≡ stages.withStages d.plan (draft_after d r).plan.stages
+  others_stay : (r.section ≡ 4) ⊎ (r.section ≡ 6) → (draft_after d r).plan ≡ stages.with_stages d.plan (draft_after d r).plan.stages
   unfolding draft_after
   others_stay (inl e) = rw e refl
   others_stay (inr e) = rw e refl
 
   rewritten : (e : (r.section ≡ 4) ⊎ (r.section ≡ 6))
       → (draft_after d r).plan
-      ≡ stages.changedPlan d.plan (type_named r) (stage_named r) (named e) kept.total kept.sizes.stages (stage_after_record (stage_here d.plan r) r)
+      ≡ stages.changed_plan d.plan (type_named r) (stage_named r) (named e) kept.total kept.sizes.stages (stage_after_record (stage_here d.plan r) r)
   unfolding draft_after
   rewritten e =
       others_stay e
-      ∙ ap (λ i. stages.withStages d.plan (set d.plan.stages i (stage_after_record (stage_here d.plan r) r))) (written_at d r e)
+      ∙ ap (λ i. stages.with_stages d.plan (set d.plan.stages i (stage_after_record (stage_here d.plan r) r))) (written_at d r e)
 
   found_here : (e : (r.section ≡ 4) ⊎ (r.section ≡ 6)) → stage_here d.plan r ≡ stage_of d.plan (type_named r) (stage_named r)
   found_here e = found_at rs d kept r e (named e)
@@ -346,7 +346,7 @@ module _ (rs : List Record) (d : Draft) (kept : Kept rs d) (r : Record) (taken :
   after_here e =
       let new = stage_after_record (stage_here d.plan r) r in
       ap (λ q. stage_of q (type_named r) (stage_named r)) (rewritten e)
-      ∙ stages.stage-named d.plan (type_named r) (stage_named r) (named e) kept.total kept.sizes.stages new
+      ∙ stages.stage_named d.plan (type_named r) (stage_named r) (named e) kept.total kept.sizes.stages new
       ∙ ap (λ s. stage_after_record s r) (found_here e)
 
   after_apart : (r.section ≡ 4) ⊎ (r.section ≡ 6) → (t k : ℕ) → (¬ ((type_named r ≡ t) × (stage_named r ≡ k)))
@@ -354,18 +354,18 @@ module _ (rs : List Record) (d : Draft) (kept : Kept rs d) (r : Record) (taken :
   after_apart e t k apart =
       let new = stage_after_record (stage_here d.plan r) r in
       ap (λ q. stage_of q t k) (rewritten e)
-      ∙ stages.stage-apart d.plan (type_named r) (stage_named r) (named e) kept.total kept.sizes.stages new t k apart
+      ∙ stages.stage_apart d.plan (type_named r) (stage_named r) (named e) kept.total kept.sizes.stages new t k apart
 
   -- C and T come before any demand and weight, and the other records leave the stages
   unwritten_after : r.section ≤ 3 → r.section ≢ 4 → r.section ≢ 6 → (t k : ℕ) → stage_of (draft_after d r).plan t k ≡ stage_of d.plan t k
   unwritten_after low a b t k =
       let none = kept.unwritten (omega (arith, taken.follows)) in
-      stages.blank-stage (draft_after d r).plan t k (stages.stages-same d r a b ∙ none) ∙ sym (stages.blank-stage d.plan t k none)
+      stages.blank_stage (draft_after d r).plan t k (stages.stages_same d r a b ∙ none) ∙ sym (stages.blank_stage d.plan t k none)
 
   after_other : r.section ≢ 4 → r.section ≢ 6 → (t k : ℕ) → stage_of (draft_after d r).plan t k ≡ stage_of d.plan t k
   after_other a b t k =
       ⊎_elim (λ (low : r.section ≤ 3). unwritten_after low a b t k)
-      (λ (high : ¬ (r.section ≤ 3)). stages.stage-still d r a b (λ e. high (omega arith)) (λ e. high (omega arith)) t k)
+      (λ (high : ¬ (r.section ≤ 3)). stages.stage_still d r a b (λ e. high (omega arith)) (λ e. high (omega arith)) t k)
       (decided (decides_le r.section 3))
 
   -- beyond the stages of all types nothing is written
@@ -384,7 +384,7 @@ module _ (rs : List Record) (d : Draft) (kept : Kept rs d) (r : Record) (taken :
   beyond_after i h = go (decided (decides_eq r.section 4)) (decided (decides_eq r.section 6)) (decided (decides_le r.section 3))
     where
       same_stages : r.section ≢ 4 → r.section ≢ 6 → get_or (draft_after d r).plan.stages i no_stage ≡ get_or d.plan.stages i no_stage
-      same_stages a b = ap (λ (xs : List Stage). get_or xs i no_stage) (stages.stages-same d r a b)
+      same_stages a b = ap (λ (xs : List Stage). get_or xs i no_stage) (stages.stages_same d r a b)
 
       go : (r.section ≡ 4) ⊎ (r.section ≢ 4) → (r.section ≡ 6) ⊎ (r.section ≢ 6) → (r.section ≤ 3) ⊎ (¬ (r.section ≤ 3))
           → get_or (draft_after d r).plan.stages i no_stage ≡ no_stage

@@ -223,6 +223,7 @@ module _ (rs : List Record) (d : Draft) (kept : Kept rs d) where
         (decided (decides_eq r.section 1))
       where
         last : Has (r ∷ []) (line 1 a b c 0) → r ≡ line 1 a b c 0
+        last (inr x') = elim x' [ ]
         last (inl e) = e
 
         alone : rs ≡ [] → Has (rs ++ r ∷ []) (line 1 a b c 0) → r ≡ line 1 a b c 0

@@ -24,6 +24,7 @@ module _ (P : Record → Type 0) where
   some_append (x ∷ xs) ys (inr h) = ⊎_elim (λ k. inl (inr k)) inr (some_append xs ys h)
 
   pub append_left : (xs ys : List Record) → Some P xs → Some P (xs ++ ys)
+  append_left [] ys x' = elim x' [ ]
   append_left (x ∷ xs) ys (inl h) = inl h
   append_left (x ∷ xs) ys (inr h) = inr (append_left xs ys h)
 
@@ -33,6 +34,7 @@ module _ (P : Record → Type 0) where
 
   -- the record that it is, with what holds of each
   pub each_some : (Q : Record → Type 0) (xs : List Record) → Each Q xs → Some P xs → (x : Record) × Q x × P x × Has xs x
+  each_some Q [] all x'' = elim x'' [ ]
   each_some Q (x ∷ xs) all (inl h) = (x, all.0, h, inl refl)
   each_some Q (x ∷ xs) all (inr h) = let found = each_some Q xs all.1 h in (found.0, found.1, found.2, inr found.3)
 
@@ -42,14 +44,17 @@ module _ (P : Record → Type 0) where
   none_each (x ∷ xs) none = (λ h. none (inl h), none_each xs (λ h. none (inr h)))
 
   pub each_none : (xs : List Record) → Each (λ (q : Record). ¬ P q) xs → ¬ Some P xs
+  each_none [] all x'' = elim x'' [ ]
   each_none (x ∷ xs) all (inl h) = all.0 h
   each_none (x ∷ xs) all (inr h) = each_none xs all.1 h
 
 pub some_map : (P Q : Record → Type 0) → ((x : Record) → P x → Q x) → (xs : List Record) → Some P xs → Some Q xs
+some_map P Q f [] x' = elim x' [ ]
 some_map P Q f (x ∷ xs) (inl h) = inl (f x h)
 some_map P Q f (x ∷ xs) (inr h) = inr (some_map P Q f xs h)
 
 pub has_each : (Q : Record → Type 0) (xs : List Record) (q : Record) → Each Q xs → Has xs q → Q q
+has_each Q [] q all x'' = elim x'' [ ]
 has_each Q (x ∷ xs) q all (inl e) = rw e at all.0
 has_each Q (x ∷ xs) q all (inr h) = has_each Q xs q all.1 h
 
@@ -60,6 +65,7 @@ module _ {K : Type 0} (of : K → ℕ → Record) (Before After : K → ℕ → 
   Held key v = After key v ↔ Has (rs ++ r ∷ []) (of key v)
 
   at_last : (q : Record) → Has (r ∷ []) q → r ≡ q
+  at_last q (inr x') = elim x' [ ]
   at_last q (inl e) = e
 
   -- a record of other values changes nothing

@@ -19,7 +19,7 @@ use Rattle.table_events.specs.declared.Asked.{Asked}
 
 module _ {p : Plan} {t : JobList} {n : ℕ} {wanted : StageAsked} {a : Asked} (asked : ActiveAsked p t n wanted a) where
   pub opening_refused : is_admitted a.answer ≡ false → refusal a.answer t ≡ list_outcome p t (event_asking wanted n)
-  opening_refused h = questions.active-refused p t n wanted _ _ (agreed_answer p t) asked.answer h
+  opening_refused h = questions.active_refused p t n wanted _ _ (agreed_answer p t) asked.answer h
 
   pub position : a.found.at ≡ position_of n (jobs_of t)
   position = ap (λ (f : Found). f.at) asked.found
@@ -29,10 +29,10 @@ module _ {p : Plan} {t : JobList} {n : ℕ} {wanted : StageAsked} {a : Asked} (a
 
   module _ (met : is_admitted a.answer ≡ true) where
     pub stands : StandsActive p t n
-    stands = (questions.active-stands p t n wanted _ _ (agreed_answer p t) asked.answer met).0
+    stands = (questions.active_stands p t n wanted _ _ (agreed_answer p t) asked.answer met).0
 
     pub right_stage : stage_met p wanted (job_of n (jobs_of t)) ≡ true
-    right_stage = (questions.active-stands p t n wanted _ _ (agreed_answer p t) asked.answer met).1
+    right_stage = (questions.active_stands p t n wanted _ _ (agreed_answer p t) asked.answer met).1
 
     pub agrees : a.agreement ≡ agreed_with (sums_of p (jobs_of t)) (ceilings_of p)
     agrees = asked.agreement ∙ agreed_met p t (agreement_stands stands)

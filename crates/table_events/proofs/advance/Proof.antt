@@ -70,7 +70,7 @@ module _ (c : tie.After-enum-told) where
   named = opening.named c.before.before.ask-active.ensures
 
   found-next : HasNext plan (job_of start.args.job (jobs_of list))
-  found-next = ltb-true _ _ (opening.right-stage c.before.before.ask-active.ensures met)
+  found-next = ltb-true _ _ (opening.right_stage c.before.before.ask-active.ensures met)
 
   more : HasNext plan j
   more = subst⁻¹ (HasNext plan) named found-next
