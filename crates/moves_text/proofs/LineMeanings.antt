@@ -122,6 +122,7 @@ module _ (l : Line) where
     where
       found : (a : EventLine) → Told l.bytes a → ((e : Event) → LineSays l.bytes e → a ≡ Given e)
           → l.ended ≡ true → is_skipped l.bytes ≡ false → Means l a
+      found Skipped told all ends kept = elim told [ ]
       found Malformed told all ends kept =
           (λ h. false≢true (sym kept ∙ h.1), λ e h. let z : ◌≡◌ {A = ℕ} 0 1 = cc (all e h.1) in omega arith)
       found (Given e) told all ends kept = (ends, told)
