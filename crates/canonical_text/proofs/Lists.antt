@@ -19,6 +19,7 @@ use Rattle.canonical_text.specs.Order.{Below, Rising}
 -- what is in one of them is in all of them, and the other way round
 module _ (P : Record → Type 0) (f : ℕ → List Record) where
   pub some_to : (n : ℕ) → Some P (list_to n f) → (i : ℕ) × InRange i n × Some P (f i)
+  some_to zero h = elim h [ ]
   some_to (suc n) h =
       ⊎_elim (λ k. let found = some_to n k in (found.0, (found.1.0, omega (arith, found.1)), found.2)) (λ k. (suc n, (omega arith, omega arith), k))
       (some_append P (list_to n f) (f (suc n)) h)
@@ -32,6 +33,7 @@ module _ (P : Record → Type 0) (f : ℕ → List Record) where
 
 -- what is in a list of one record
 pub only : (x y : Record) → Has (x ∷ []) y → y ≡ x
+only x y (inr x'') = elim x'' [ ]
 only x y (inl e) = sym e
 
 -- and in that of a value

@@ -170,6 +170,7 @@ lines_short (p ∷ q ∷ ps) h =
 -- a list without one of its records
 removed : (q : Record) (xs : List Record) → Has xs q
     → (ys : List Record) × (length (text_of xs) ≡ length (record_text q) + length (text_of ys)) × ((x : Record) → x ≢ q → Has xs x → Has ys x)
+removed q [] x' = elim x' [ ]
 removed q (y ∷ ys) (inl e) = (
   ys,
   length-append (record_text y) (text_of ys) ∙ rw e refl,

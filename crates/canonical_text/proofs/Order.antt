@@ -85,6 +85,7 @@ module _ (p : Plan) where
 
 -- no key is below itself, and a key below another is of no later section
 pub not_below : (ks : List ℕ) → ¬ Below ks ks
+not_below [] x' = elim x' [ ]
 not_below (k ∷ ks) (inl l) = omega arith
 not_below (k ∷ ks) (inr h) = not_below ks h.1
 

@@ -7,6 +7,7 @@ ghost use Rattle.plan_bytes.specs.Over.{empty_frame};
 use plan_bytes::Frame;
 
 // The frame with nothing in it; no plan of it is sound.
+#[tactic(auto, unfolding(plan_bytes::specs::Over::empty_frame))]
 pub fn empty_frame() -> Frame
     ensures { result ≡ empty_frame }
 {

@@ -16,6 +16,7 @@ fn in_range(i: u32, n: u32) -> bool
 }
 
 // Questions 13 to 16 of a load, asked where those before were answered 0, by where the search for the number ended.
+#[tactic(auto, using(events::proofs::AnswerTags::refused_tag), unfolding(internals::specs::Internals::load_answer))]
 pub fn load_answer(
     first: Answer,
     count: usize,
@@ -60,6 +61,7 @@ pub fn stage_met(stage: u32, length: u32, wanted: StageAsked) -> bool
 }
 
 // Questions 13, 14 and 17 of an event whose job must be active, in the same way.
+#[tactic(auto, using(events::proofs::AnswerTags::refused_tag), unfolding(internals::specs::Internals::active_answer))]
 pub fn active_answer(first: Answer, count: usize, at: usize, job: u32, met: bool) -> Answer
     ensures { result ≡ active_answer first count at job met }
 {
