@@ -1,21 +1,18 @@
 """Brings the must-fail edits to today's spelling: each edit of the last landed commit (the first line of docs/PORT.md) whose `old:` text
 stands exactly once in today's file, spelled as port.py and tools/respell.py spell it, is written anew with the same change.
-usage: python3 tools/bring_edits.py [--check] [--again] at the top.
-An edit that no longer reads as landed is left as it is, but for --again. --check changes nothing: it lists each edit whose old text doesn't
-stand exactly once, and each whose change isn't the landed one word for word."""
+usage: python3 tools/bring_edits.py [--check | --list | --again] at the top.
+An edit that no longer reads as landed is left as it is, but for --again. --check and --list change nothing: --check lists each edit whose old
+text doesn't stand exactly once, and each whose change or place isn't the landed one word for word (names as respelled; brackets, blanks, `now`
+aside); --list prints each edit whose text is new beside the landed one."""
 
-import difflib
 import glob
 import re
 import subprocess
 import sys
 
-NAME = re.compile(r"(?<![\w'.])[a-z][\w']*(?:[A-Z-][\w'-]*)?")
 OPENS, CLOSES = "([{", ")]}"
 # What ends an application in a specification: a projection behind it takes what stands since.
 OPERATORS = set("= ≡ ≢ ≤ < × ⊎ ∷ ++ + - * && || → ↔ ; , : λ . ¬ = let in".split())
-# A word of the older Rattle that now has another name.
-WORDS = {}
 
 
 def landed_commit():
@@ -47,7 +44,7 @@ def word(w):
         return w
     if re.fullmatch(r"_[^_\w]+_", w):
         return "◌" + w[1:-1] + "◌"
-    return WORDS.get(w, turned(w))
+    return turned(w)
 
 
 def group(words, i, closing):
@@ -124,11 +121,7 @@ def paths(text):
 
 def today(text, path):
     """The ways in which a landed text may be spelled today, the likeliest first."""
-    if path.endswith(".rt"):
-        ways = [text, specified(text)]
-    else:
-        ways = [specified(paths(text))]
-    return ways
+    return [text, specified(paths(text))] if path.endswith(".rt") else [specified(paths(text))]
 
 
 def read(edit):
@@ -163,20 +156,16 @@ def fault(text, pairs):
 
 
 def brought(commit, edit):
-    path_of = edit.split("/must-fail/")[0] + "/"
-    was = landed(commit, edit)
-    head, path, pairs = read(was)
-    text = open(path_of + path, encoding="utf-8").read()
-    for way in range(2):
-        new = []
-        for old, new_ in pairs:
-            ways = today(old, path), today(new_, path)
-            if way >= len(ways[0]):
-                break
-            new.append([ways[0][way], ways[1][way]])
-        if len(new) == len(pairs) and not (said := fault(text, new)):
+    """The edit in today's spelling, or none and what is amiss."""
+    head, path, pairs = read(landed(commit, edit))
+    text = open(edit.split("/must-fail/")[0] + "/" + path, encoding="utf-8").read()
+    first = None
+    for way in range(len(today("", path))):
+        new = [[today(t, path)[way] for t in pair] for pair in pairs]
+        said = fault(text, new)
+        if not said:
             return written(head, path, new), None
-        first = first if way else (new, said)
+        first = first or said
     return None, first
 
 
@@ -215,28 +204,51 @@ def compared(commit, edit):
             yield f"new text: {b} | {d}"
         if words_of(lines_at(before, a)) != words_of(lines_at(text, c)):
             yield f"its line: {lines_at(before, a).strip()} | {lines_at(text, c).strip()}"
-        own = set(re.findall(r"[A-Za-z_][\w']*", text))
-        for name in re.findall(r"[A-Za-z_][\w']*", re.sub(r'"(?:[^"\\]|\\.)*"', "", d)):
-            if name not in own and name not in re.findall(r"[A-Za-z_][\w']*", " ".join(x[1] for x in now[2] if x[1] != d)):
-                yield f"{name} is in the new text alone"
 
 
 def check(commit):
-    bad = looked = 0
     edits = sorted(glob.glob("crates/*/must-fail/*.edit"))
+    bad = differ = 0
+    there = subprocess.run(["git", "ls-tree", "-r", "--name-only", commit, "crates"], capture_output=True, text=True).stdout.split()
+    gone = sorted({e for e in there if e.endswith(".edit")} - set(edits))
+    for edit in gone:
+        print(edit[len("crates/"):], ":: gone")
+    edits = [e for e in edits if e in there]
     for edit in edits:
-        for said in compared(commit, edit):
-            print(edit[len("crates/"):], "::", said)
-            bad += said.startswith(("stands", "changes nothing"))
-            looked += 1
-    print(f"{len(edits)} edits, {bad} that can't be applied, {looked} lines to look at")
-    return bad
+        said = list(compared(commit, edit))
+        for line in said:
+            print(edit[len("crates/"):], "::", line)
+        amiss = bool(said) and said[0].startswith(("stands", "changes nothing"))
+        bad += amiss
+        differ += bool(said) and not amiss
+    print(f"{len(edits)} landed edits, {len(gone)} gone, {bad} that can't be applied, {differ} whose words aren't the landed ones")
+    return bad + len(gone)
+
+
+def listed(commit):
+    """Each edit whose text isn't the landed one, old and new side by side, for docs/PORT.md."""
+    for edit in sorted(glob.glob("crates/*/must-fail/*.edit")):
+        was, now = landed(commit, edit), open(edit, encoding="utf-8").read()
+        if was == now:
+            continue
+        was, now = read(was), read(now)
+        print(f"\n### {edit.split('/')[1]}/{edit.split('/')[-1]}, {now[1]}\n")
+        if was[0] != now[0]:
+            print("    was:", *was[0], "\n    now:", *now[0])
+        for i in range(max(len(was[2]), len(now[2]))):
+            for kind in range(2):
+                a = was[2][i][kind] if i < len(was[2]) else "(none)"
+                b = now[2][i][kind] if i < len(now[2]) else "(none)"
+                name = ("old", "new")[kind]
+                print(f"    {name}, landed: {a}\n    {name}, today:  {b}" if a != b else f"    {name}, both:   {a}")
 
 
 def main(argv):
     commit = landed_commit()
     if "--check" in argv:
         sys.exit(check(commit) > 0)
+    if "--list" in argv:
+        return listed(commit)
     open_ = 0
     for edit in sorted(glob.glob("crates/*/must-fail/*.edit")):
         was, now = landed(commit, edit), open(edit, encoding="utf-8").read()
@@ -245,7 +257,7 @@ def main(argv):
         new, said = brought(commit, edit)
         if new is None:
             open_ += 1
-            print(edit, "::", said[1])
+            print(edit[len("crates/"):], "::", said)
             continue
         if new != now:
             open(edit, "w", encoding="utf-8").write(new)
