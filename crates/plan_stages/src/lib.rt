@@ -35,6 +35,7 @@ pub fn length_of(lengths: &[u8; 16], kind: u32) -> u32
 }
 
 // The stages of the types before a type.
+#[tactic(auto, using(internals::proofs::FixedWidth::sum_beyond, internals::proofs::FixedWidth::sum_last, internals::proofs::FixedWidth::at_position))]
 fn stages_before(lengths: [u8; 16], kind: u32) -> usize
     ensures { (result ≡ sum_to (kind - 1) (at lengths)) × (result ≤ 16 * 4294967295) }
 {
@@ -52,6 +53,7 @@ fn stages_before(lengths: [u8; 16], kind: u32) -> usize
 }
 
 // Where a stage of a type stands among all stages, counted from 0.
+#[tactic(auto, unfolding(internals::specs::Internals::stage_index))]
 pub fn stage_index(lengths: &[u8; 16], kind: u32, stage: u32) -> usize
     ensures { result ≡ stage_index lengths.now kind stage }
 {
