@@ -1,3 +1,2 @@
--- Reading to the end; and a reader in a local, lent to `next`, for whoever walks through such a call.
+-- Reading to the end.
 pub mod ToEnd
-pub mod LentReader

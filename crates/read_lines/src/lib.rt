@@ -44,8 +44,7 @@ pub fn part_of(text: &[u8], from: usize, to: usize) -> &[u8]
     &text[start..end]
 }
 
-// The line reader: it keeps a reference to a text and its position in it. Its functions take it apart and call those above, which are covered; they
-// themselves are proved by hand.
+// The line reader: it keeps a reference to a text and its position in it.
 #[derive(Drop)]
 pub struct LineReader<'a> {
     pub text: &'a [u8],
