@@ -85,6 +85,7 @@ pub fn look_up(count: usize, jobs: &[u32; 192], number: u32) -> Found
 }
 
 // A job more, last in order.
+#[tactic(auto, unfolding(internals::specs::Internals::with_job))]
 pub fn with_job(t: JobList, j: Job) -> JobList
     ensures { result ≡ with_job t j }
 {
