@@ -13,6 +13,7 @@ use plan_text::Fields;
 const NO_VALUE: u32 = 100000;
 
 // A line that is empty or begins with `#`.
+#[tactic(auto, using(crate::proofs::Letter::skipped_empty, crate::proofs::Letter::skipped_first))]
 pub fn is_skipped(line: &[u8]) -> bool
     ensures { result ≡ is_skipped line.now }
 {
@@ -23,6 +24,7 @@ pub fn is_skipped(line: &[u8]) -> bool
 }
 
 // The letter is one byte where the line is, or where a tab is next; a line that begins with a tab has none.
+#[tactic(auto, using(crate::proofs::Letter::no_byte, crate::proofs::Letter::tab_first, crate::proofs::Letter::two_bytes, crate::proofs::Letter::one_byte))]
 pub fn letter_of(line: &[u8]) -> u8
     ensures { result ≡ letter_byte (letter_in (columns line.now)) }
 {
