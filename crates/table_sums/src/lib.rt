@@ -173,6 +173,7 @@ fn broken(sums: Sums, stages: &[u8], old: usize, new: usize, ceilings: Ceilings)
 }
 
 // Questions 18 and 19 once the stage at one index is exchanged for that at another; there is none at an index beyond the last.
+#[tactic(auto, unfolding(internals::specs::Internals::kept_after, events::specs::Events::kept_answer))]
 pub fn kept_after(sums: Sums, stages: &[u8], old: usize, new: usize, ceilings: Ceilings) -> Answer
     ensures { result ≡ kept_after sums (stage_at stages.now old) (stage_at stages.now new) ceilings }
 {
