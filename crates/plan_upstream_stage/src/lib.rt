@@ -9,6 +9,7 @@ ghost use Rattle.plan_upstream_stage.specs.Due.{rank_if, lowest_rank, due_by};
 use arithmetic::{at_most, u8_to_u16, u8_to_usize};
 
 // Is one unit demanded in all? Sums of 16 bits go eight at a time.
+#[tactic(auto, using(crate::proofs::Beyond::units_seen))]
 pub fn one_unit(demand: &[u8], resources: u8) -> bool
     ensures { result ≡ eqb (sum_to resources (at demand.now)) 1 }
 {
@@ -36,6 +37,7 @@ fn lower(a: u16, b: u16) -> u16
 }
 
 // The lowest rank of the resources that are demanded, of those that can have a rank; above every rank where none is.
+#[tactic(auto, using(crate::proofs::Beyond::ranks_seen))]
 pub fn lowest_rank<'a>(demand: &'a [u8], rank: &'a [u8; 32], resources: u8) -> u16
     ensures { result ≡ lowest_rank (min resources 32) demand.now rank.now }
 {
