@@ -1,2 +1,3 @@
 -- A line as it grows.
 pub mod LineGrown
+pub mod Fields
