@@ -1,5 +1,5 @@
-// The library that a host links: the whole run of `cellmoves`, and a cell that lives in the host's bytes. Every function takes any
-// bytes and any numbers; what a cell holds is asked at each call.
+// What the library of a host does: the whole run of `cellmoves`, and a cell that lives in the host's bytes. Every function takes any
+// bytes and any numbers; what a cell holds is asked at each call. `rilthoss_c` has the same for C.
 #![tactic(auto)]
 
 ghost use Rattle.std.specs.Prelude.{◌≡◌, ◌≤◌};
@@ -26,44 +26,38 @@ fn pack_two(number: u32, first: u32, second: u32) -> u64
     number as u64 + 65536 * (second as u64) + 4294967296 * (first as u64)
 }
 
-#[unsafe(no_mangle)]
-pub extern "C" fn rilthoss_load(cell: &mut [u8], job: u32, kind: u32) -> u64
+pub fn rilthoss_load(cell: &mut [u8], job: u32, kind: u32) -> u64
     ensures { (result ≡ event_answer cell.old (Event.Load job kind)) × (cell.new ≡ event_cell cell.old (Event.Load job kind)) }
 {
     event_at(cell, Event::Load { job, kind })
 }
 
-#[unsafe(no_mangle)]
-pub extern "C" fn rilthoss_advance(cell: &mut [u8], job: u32) -> u64
+pub fn rilthoss_advance(cell: &mut [u8], job: u32) -> u64
     ensures { (result ≡ event_answer cell.old (Event.Advance job)) × (cell.new ≡ event_cell cell.old (Event.Advance job)) }
 {
     event_at(cell, Event::Advance(job))
 }
 
-#[unsafe(no_mangle)]
-pub extern "C" fn rilthoss_unload(cell: &mut [u8], job: u32) -> u64
+pub fn rilthoss_unload(cell: &mut [u8], job: u32) -> u64
     ensures { (result ≡ event_answer cell.old (Event.Unload job)) × (cell.new ≡ event_cell cell.old (Event.Unload job)) }
 {
     event_at(cell, Event::Unload(job))
 }
 
-#[unsafe(no_mangle)]
-pub extern "C" fn rilthoss_pull(cell: &mut [u8], job: u32) -> u64
+pub fn rilthoss_pull(cell: &mut [u8], job: u32) -> u64
     ensures { (result ≡ event_answer cell.old (Event.Pull job)) × (cell.new ≡ event_cell cell.old (Event.Pull job)) }
 {
     event_at(cell, Event::Pull(job))
 }
 
-#[unsafe(no_mangle)]
-pub extern "C" fn rilthoss_drain(cell: &mut [u8], budget: u32) -> u64
+pub fn rilthoss_drain(cell: &mut [u8], budget: u32) -> u64
     ensures { (result ≡ drain_answer cell.old budget) × (cell.new ≡ drain_cell cell.old budget) }
 {
     drain_at(cell, budget)
 }
 
 // The plan of a text in place of the one that was there; a refused text gives the empty plan. The table stays.
-#[unsafe(no_mangle)]
-pub extern "C" fn rilthoss_read_plan(cell: &mut [u8], text: &[u8]) -> u64
+pub fn rilthoss_read_plan(cell: &mut [u8], text: &[u8]) -> u64
     ensures { (result ≡ read_answer text.now cell.old) × (cell.new ≡ read_cell text.now cell.old) }
 {
     if cell.len() < CELL {
@@ -77,8 +71,7 @@ pub extern "C" fn rilthoss_read_plan(cell: &mut [u8], text: &[u8]) -> u64
 }
 
 // Where in a text the line that its refusal is about begins and ends.
-#[unsafe(no_mangle)]
-pub extern "C" fn rilthoss_shown(text: &[u8]) -> u64
+pub fn rilthoss_shown(text: &[u8]) -> u64
     ensures { result ≡ shown_answer text.now }
 {
     let reading = read(text);
@@ -88,8 +81,7 @@ pub extern "C" fn rilthoss_shown(text: &[u8]) -> u64
 }
 
 // The canonical text of the plan, written into the buffer; beside the number stands its length.
-#[unsafe(no_mangle)]
-pub extern "C" fn rilthoss_write_plan<'a>(cell: &'a [u8], buffer: &'a mut [u8]) -> u64
+pub fn rilthoss_write_plan<'a>(cell: &'a [u8], buffer: &'a mut [u8]) -> u64
     ensures { (result ≡ write_answer cell.now buffer.old) × (buffer.new ≡ written_buffer cell.now buffer.old) }
 {
     if cell.len() < CELL {
@@ -102,8 +94,7 @@ pub extern "C" fn rilthoss_write_plan<'a>(cell: &'a [u8], buffer: &'a mut [u8]) 
 }
 
 // The upstream check of the plan.
-#[unsafe(no_mangle)]
-pub extern "C" fn rilthoss_check(cell: &[u8]) -> u64
+pub fn rilthoss_check(cell: &[u8]) -> u64
     ensures { result ≡ check_answer cell.now }
 {
     if cell.len() < CELL {
@@ -118,8 +109,7 @@ pub extern "C" fn rilthoss_check(cell: &[u8]) -> u64
 }
 
 // The whole run of `cellmoves`: the output then begins with what is printed, and the answer is its length; 0 where it does not fit.
-#[unsafe(no_mangle)]
-pub extern "C" fn rilthoss_run(input: &[u8], buffer: &mut [u8]) -> usize
+pub fn rilthoss_run(input: &[u8], buffer: &mut [u8]) -> usize
     ensures { (result ≡ length_filled (output input.now) buffer.old) × (buffer.new ≡ filled (output input.now) buffer.old) }
 {
     let printed = answer_input(input, buffer);
