@@ -22,7 +22,7 @@ pub fn program() -> PathBuf {
     let program = folder.join("celldesk");
     assert!(
         program.is_file(),
-        "there is no program {}: run `rt check celldesk`, or name its folder in RILTHOSS_PROGRAMS",
+        "there is no program {}: run `host/programs`, or name its folder in RILTHOSS_PROGRAMS",
         program.display()
     );
     program
