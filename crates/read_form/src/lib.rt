@@ -56,6 +56,7 @@ fn section_of_letter(letter: u8) -> u32
     }
 }
 
+#[tactic(auto, using(crate::proofs::Letter::section_by_byte))]
 pub fn section_of(line: &[u8]) -> u32
     ensures { result ≡ section_of (letter_in (columns line.now)) }
 {
