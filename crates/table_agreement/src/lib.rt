@@ -69,6 +69,7 @@ fn in_range(i: u32, n: u32) -> bool
     if i < 1 { false } else { i <= n }
 }
 
+#[tactic(auto, unfolding(model::specs::Jobs::fits))]
 fn job_fits(j: Job, lengths: &[u8; 16], types: u32) -> bool
     ensures { result ≡ fits types lengths.now j }
 {
