@@ -30,6 +30,7 @@ fn put_record_words(number: u32, buffer: &mut [u8], at: usize) -> usize
 }
 
 // Of every number; none of one that is not published.
+#[tactic(auto, unfolding(told_text::specs::Words::words_of))]
 pub fn put_words(number: u32, buffer: &mut [u8], at: usize) -> usize
     ensures { (result ≡ length (words_of number)) × (buffer.new ≡ overlaid_at at (words_of number) buffer.old) }
 {
