@@ -66,6 +66,7 @@ fn event_with(letter: u8, fields: Fields) -> EventLine
 }
 
 // What a line after the `E` says.
+#[tactic(auto, unfolding(moves_text::specs::EventLines::event_in))]
 pub fn event_of(line: &[u8], ended: bool) -> EventLine
     ensures { result ≡ event_in (record { bytes = line.now; ended = ended }) }
 {
