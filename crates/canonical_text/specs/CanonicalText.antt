@@ -1,4 +1,4 @@
--- The canonical form of a plan: C, then the records of each section in order of rising keys (`records-rise`), a line for each. A record
+-- The canonical form of a plan: C, then the records of each section in order of rising keys (`records_rise`), a line for each. A record
 -- whose value is 0 is left out, but a bound is written always.
 use Rattle.std.specs.Prelude.{ℕ, zero, suc, cond, List, [], ◌∷◌, ◌++◌, map, eqb, length, take}
 use Rattle.model.specs.Numbers.{entry, at}

@@ -1,5 +1,5 @@
 -- What an inner function of the writer puts, under one name. No promise rests on it: the writer's contract is an equation with `writing`
--- and `spaceAfter`.
+-- and `space_after`.
 use Rattle.std.specs.Prelude.{ℕ}
 use Rattle.plan_text.specs.Records.{section_s, section_a}
 use Rattle.plan_text.specs.Draft.{of_section}

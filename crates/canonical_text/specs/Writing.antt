@@ -41,7 +41,7 @@ write_conditions p buffer =
     ∷ asks ((length (canonical_text p) ≤ length buffer) × (length (canonical_text p) ≤ max_text)) (RefusesPlan buffer 9)
     ∷ []
 
--- the same, computed (`writing-first-failure`)
+-- the same, computed (`writing_first_failure`)
 abbrev pub has_room : ℕ → ℕ → Bool
 has_room size room = leb size room && leb size max_text
 

@@ -1,7 +1,7 @@
 // The canonical form of a plan, and what writing it answers, as values. What they mean is defined in specs/, and nothing runs here.
 #![tactic(auto)]
 
-// What the writer answers; its numbers are `writeNumber` of specs/Writing.
+// What the writer answers; its numbers are `write_number` of specs/Writing.
 #[derive(Clone, Copy)]
 pub enum WriteAnswer {
     Written,

@@ -1,6 +1,6 @@
 -- Values that are read back from a cell as they were written: as many entries as there is room for, and what takes more than one byte, a bound
 -- and the numbers of a job, within its bytes. Of a plan's entries of one byte nothing is asked: they are laid down as they are, and a program's
--- are bytes by their type. The plan of every text fits (`read_fits`), and every list that agrees with a sound plan (`agreeing-fits`); a list that
+-- are bytes by their type. The plan of every text fits (`read_fits`), and every list that agrees with a sound plan (`agreeing_fits`); a list that
 -- counts more than 255 jobs does not.
 use Rattle.std.specs.Prelude.{ℕ, ◌<◌, ◌≡◌, length}
 use Rattle.model.specs.Limits.{max_resources, max_types, max_rows, max_all_stages, max_jobs}

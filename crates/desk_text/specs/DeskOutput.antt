@@ -1,5 +1,5 @@
 -- What `celldesk` prints in all, of a plan text and of an input that comes in reads: for every way in which the input is cut, what is put is
--- what `cellmoves` prints of the same lines (`desk-as-cellmoves`) and, without its limit, what document 01 words of them (`desk-prints`).
+-- what `cellmoves` prints of the same lines (`desk_as_cellmoves`) and, without its limit, what document 01 words of them (`desk_prints`).
 use Rattle.std.specs.Prelude.{ℕ, ◌<◌, ◌≤◌, List, [], ◌∷◌, ◌++◌, ◌≡◌, length}
 use Rattle.model.specs.declared.Plan.{Plan}
 use Rattle.plan_text.specs.TextQuestions.{max_text}

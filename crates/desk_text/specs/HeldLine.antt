@@ -1,5 +1,5 @@
 -- The line that is held until its LF comes, and what it then means. Its first 64 bytes say it: an event line has 13 at most, and a longer line
--- is skipped if it begins with `#` and malformed if not (`held-means`).
+-- is skipped if it begins with `#` and malformed if not (`held_means_lem`).
 use Rattle.std.specs.Prelude.{ℕ, ◌+◌, min, true, cond, List, leb, length, take, replicate}
 use Rattle.plan_text.specs.Lines.{is_skipped}
 use Rattle.moves_text.specs.Buffer.{overlaid_at}

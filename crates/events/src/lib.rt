@@ -19,7 +19,7 @@ pub enum Event {
     Pull(u32),
 }
 
-// What an event is answered; its numbers are `answerNumbers` of specs/Events.
+// What an event is answered; its numbers are `answer_numbers` of specs/Events.
 #[derive(Clone, Copy)]
 pub enum Answer {
     Admitted,
@@ -41,7 +41,7 @@ pub struct ListOutcome {
     pub list: JobList,
 }
 
-// How a drain ends; its number is `endNumber` of specs/Drain.
+// How a drain ends; its number is `end_number` of specs/Drain.
 #[derive(Clone, Copy)]
 pub enum End {
     Emptied,

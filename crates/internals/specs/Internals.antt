@@ -89,7 +89,7 @@ pub record Exchange (p : Plan) (js next : List Job) (old new : Stage) : Type 0 w
   pub units : (r : ℕ) → Exchanged (demand_of p r) js next (at old.demand r) (at new.demand r)
   pub rows : (w : ℕ) → Exchanged (weight_of p w) js next (at old.weight w) (at new.weight w)
 
--- where `worst_after` is the row test as worded, `RowTest`, of the jobs afterwards (`row-tested`): the plan is sound, the sums are those over the jobs
+-- where `worst_after` is the row test as worded, `RowTest`, of the jobs afterwards (`row_tested`): the plan is sound, the sums are those over the jobs
 -- now, the ceilings are the plan's, exchanging the stages leads to the jobs afterwards, and each of these stands at a stage of the plan
 pub record RowTestApplies (p : Plan) (js next : List Job) (s : Sums) (old new : Stage) (c : Ceilings) : Type 0 where
   pub sound : Sound p

@@ -30,7 +30,7 @@ pub struct Job {
     pub stage: u32,
 }
 
-// What the upstream check answers; its numbers are `checkNumbers` of specs/Upstream.
+// What the upstream check answers; its numbers are `check_numbers` of specs/Upstream.
 #[derive(Clone, Copy)]
 pub enum Check {
     Meets,

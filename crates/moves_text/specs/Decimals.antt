@@ -9,7 +9,7 @@ use Rattle.plan_text.specs.Records.{Digit, value_on}
 abbrev pub IsDecimal : ℕ → List ℕ → Type 0
 IsDecimal n bs = (1 ≤ length bs) × Each Digit bs × (value_on 0 bs ≡ n) × ((length bs ≡ 1) ⊎ (get_or bs 0 0 ≢ 48))
 
--- the same, computed (`decimal-is`): how many digits a number has, and its digits
+-- the same, computed (`decimal_is`): how many digits a number has, and its digits
 abbrev pub digit_count : ℕ → ℕ → ℕ
 digit_count zero n = 1
 digit_count (suc fuel) n = cond (ltb n 10) 1 (suc (digit_count fuel (n / 10)))

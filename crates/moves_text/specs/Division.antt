@@ -22,7 +22,7 @@ pub record Unmarked (input plan events : List ℕ) : Type 0 where
 abbrev pub Divides : List ℕ → List ℕ → List ℕ → Type 0
 Divides input plan events = Marked input plan events ⊎ Unmarked input plan events
 
--- the same, computed (`input-divided`; and no other parts divide the input, `divides-one`)
+-- the same, computed (`input_divided`; and no other parts divide the input, `divides_one`)
 abbrev pub is_e : List ℕ → Bool
 is_e [] = false
 is_e (b ∷ []) = eqb b 69

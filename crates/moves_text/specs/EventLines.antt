@@ -35,8 +35,8 @@ Means l Skipped = IsSkipped l
 Means l Malformed = (¬ IsSkipped l) × ((e : Event) → ¬ IsEvent l e)
 Means l (Given e) = IsEvent l e
 
--- the same, computed: an event by its letter and its fields; each line means what is computed of it and nothing else (`line-means`,
--- `meaning-unique`)
+-- the same, computed: an event by its letter and its fields; each line means what is computed of it and nothing else (`line_means`,
+-- `meaning_unique`)
 abbrev pub event_with : ℕ → Fields → EventLine
 event_with letter fs =
     let first = get_or fs.numbers 0 0 in

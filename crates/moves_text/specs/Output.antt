@@ -1,4 +1,4 @@
--- The same, computed (`output-prints`): one function from the bytes read to the bytes printed.
+-- The same, computed (`output_prints`): one function from the bytes read to the bytes printed.
 use Rattle.std.specs.Prelude.{ℕ, ◌+◌, ◌*◌, cond, List, [], ◌∷◌, ◌++◌, leb, length}
 use Rattle.std.proofs.Math.Option.{Option}
 use Rattle.model.specs.declared.Plan.{Plan}
@@ -40,7 +40,7 @@ output input =
     let r = reading (plan_part input) in
     cond (leb (length input) max_text) (about_plan r ++ to_print r.plan empty_list 1 (event_part input)) (quoted "P\t1\t0\n")
 
--- a length that every output has room in (`output-fits`). The line `P` has at most 10 bytes (one digit and five), `Q` 11 (three numbers of two
+-- a length that every output has room in (`output_fits`). The line `P` has at most 10 bytes (one digit and five), `Q` 11 (three numbers of two
 -- digits), an event's line 15 (five digits for the ordinal, two for each other number). A counted line has two bytes or is the
 -- last, and the `E` line has two: so there are at most 32,767
 abbrev pub enough : ℕ

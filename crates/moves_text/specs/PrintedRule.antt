@@ -37,7 +37,7 @@ last_active (r ∷ q ∷ rs) = last_active (q ∷ rs)
 
 -- the lines printed are those of the theorem's states: the answers printed are those of its run, the moves that it counts are the
 -- lines that say 0, and the jobs of its ledger are as many as the last line has active. No other replies have these bytes
--- (`printed-once`)
+-- (`printed_once`)
 pub record PrintedRule (out : List ℕ) (p : Plan) (first last : List (Option Event)) : Type 0 where
   pub early : List Reply
   pub late : List Reply

@@ -38,7 +38,7 @@ line_for p before l =
     event_line (length before + 1) a.0 a.1 (table_after p (before ++ l ∷ [])).count
 
 -- of a plan text and the text of event lines: the lines about the plan, and one for each counted event line, in order. A line means one
--- thing (`meaning-unique`)
+-- thing (`meaning_unique`)
 pub record LinesAnswered (plan events out : List ℕ) : Type 0 where
   pub meanings : List EventLine
   pub meant : EachMeans (lines_of events) meanings

@@ -17,7 +17,7 @@ wider b [] = (b ∷ []) ∷ []
 wider b (p ∷ ps) = (b ∷ p) ∷ ps
 
 -- the parts between the bytes that are s, one more than there are such bytes; put together with s between them they are the
--- list again, and none has an s (`split-joined`, `split-clean`)
+-- list again, and none has an s (`split_joined`, `split_clean`)
 abbrev pub split_by : ℕ → List ℕ → List (List ℕ)
 split_by s [] = [] ∷ []
 split_by s (b ∷ bs) = cond (eqb b s) ([] ∷ split_by s bs) (wider b (split_by s bs))

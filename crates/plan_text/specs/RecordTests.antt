@@ -14,8 +14,8 @@ abbrev pub is_numeral : List ℕ → Bool
 is_numeral bs = in_range (length bs) 5 && each is_digit bs
 
 -- fields as a program reads them, one after the other, behind the n whose values are at hand; the count is 5 where one is no numeral or
--- there is a fifth. So it is m, at most 4, exactly where there are m fields, each a numeral (`count-told`), and then the numbers are their
--- values (`numbers-told`)
+-- there is a fifth. So it is m, at most 4, exactly where there are m fields, each a numeral (`count_told`), and then the numbers are their
+-- values (`numbers_told`)
 abbrev pub fields_on : ℕ → List ℕ → List (List ℕ) → Fields
 fields_on n xs [] = record { count = n; numbers = xs }
 fields_on n xs (f ∷ fs) =

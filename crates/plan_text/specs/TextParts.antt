@@ -12,6 +12,6 @@ pub record IsPart (text : Bor (List ℕ)) (from to : ℕ) (part : Bor (List ℕ)
   pub bytes : part.now ≡ take (to - from) (drop from text.now)
   pub address : part.ref_ptr ≡ (text.ref_ptr.0, text.ref_ptr.1 + part_start text.now from to)
 
--- the part that a reading shows (`shownIn`), in the caller's own text
+-- the part that a reading shows (`shown_in`), in the caller's own text
 abbrev pub IsShown : Bor (List ℕ) → Reading → Bor (List ℕ) → Type 0
 IsShown text a = IsPart text a.from a.to

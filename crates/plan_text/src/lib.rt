@@ -33,7 +33,7 @@ pub struct Fields {
     pub numbers: [u32; 4],
 }
 
-// What a plan text is answered; its numbers are `textNumber` of specs/TextQuestions.
+// What a plan text is answered; its numbers are `text_number` of specs/TextQuestions.
 #[derive(Clone, Copy)]
 pub enum TextAnswer {
     Accepted,

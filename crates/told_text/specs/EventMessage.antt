@@ -14,7 +14,7 @@ use Rattle.told_text.specs.Words.{words_of}
 use Rattle.told_text.specs.Slips.{slip_words}
 use Rattle.told_text.specs.declared.Slip.{Slip}
 
--- by how much row w would be exceeded, were the event made (`excess-of-the-row`)
+-- by how much row w would be exceeded, were the event made (`excess_of_the_row`)
 unfoldable pub excess_after : Plan → JobList → Event → ℕ → ℕ
 excess_after p t e w = excess_of p (jobs_after p (jobs_of t) e) w
 

@@ -38,7 +38,7 @@ has_space bytes = has_byte 32 32 bytes
 abbrev pub has_beyond : List ℕ → Bool
 has_beyond bytes = has_byte 128 255 bytes
 
--- how many tabs there are: a field comes after each (`tabs-fields`)
+-- how many tabs there are: a field comes after each (`tabs_fields`)
 abbrev pub tabs_in : List ℕ → ℕ
 tabs_in [] = 0
 tabs_in (b ∷ bs) = cond (eqb b tab) 1 0 + tabs_in bs

@@ -1,5 +1,5 @@
--- What each published number means, in words: a line for each number, and no number twice (`worded-once`). No answer of any entrance is
--- without (`text-worded` and the laws beside it).
+-- What each published number means, in words: a line for each number, and no number twice (`worded_once`). No answer of any entrance is
+-- without (`text_worded` and the laws beside it).
 use Rattle.std.specs.Prelude.{ℕ, cond, List, [], ◌∷◌, ◌++◌, ◌≢◌, ◌≡◌, eqb}
 use Rattle.model.specs.Numbers.{Split}
 use Rattle.moves_text.specs.Quoted.{quoted}

@@ -1,5 +1,5 @@
 -- The records of demands and of weights in one form, so that one walk over the stages puts either. No promise rests on it: the contracts of
--- both entrances are equations with `demandRecords` and `weightRecords`.
+-- both entrances are equations with `demand_records` and `weight_records`.
 use Rattle.std.specs.Prelude.{ℕ, ◌+◌, ◌-◌, cond, List, eqb, get_or}
 use Rattle.model.specs.Limits.{max_all_stages}
 use Rattle.model.specs.Numbers.{at}
@@ -11,7 +11,7 @@ use Rattle.plan_text.specs.Meaning.{S, A}
 use Rattle.plan_text.specs.declared.Record.{Record}
 use Rattle.canonical_text.specs.CanonicalText.{list_to, valued, entry_records}
 
--- the stage at an index, counted from 0, of the plan that is read from any bytes (`planRead`)
+-- the stage at an index, counted from 0, of the plan that is read from any bytes (`plan_read`)
 unfoldable pub stage_read : List ℕ → ℕ → Stage
 stage_read bytes i = get_or (entries_in stage_in stage_size max_all_stages bytes) i no_stage
 
