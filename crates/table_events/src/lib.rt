@@ -133,6 +133,7 @@ pub fn advance<'a>(
 }
 
 // The job at this position goes, where the questions were met. It only gives back, so 18 and 19 need not be asked.
+#[tactic(auto, using(events::proofs::AnswerTags::not_admitted), unfolding(internals::specs::JobNumbers::removal_from))]
 fn removal(first: Answer, at: usize) -> Judgement
     ensures { result ≡ removal_from first at }
 {
