@@ -15,6 +15,7 @@ use plan_text::{Head, Record, TextAnswer};
 use read_ranges::in_ranges;
 
 // Where the stage of an S or an A stands among all stages; 0 for another record.
+#[tactic(auto, unfolding(plan_text::specs::Draft::index_named, internals::specs::Internals::stage_index))]
 pub fn index_named(rec: Record, lengths: &[u8; 16]) -> usize
     ensures { result ≡ index_named lengths.now rec }
 {
@@ -27,6 +28,7 @@ pub fn index_named(rec: Record, lengths: &[u8; 16]) -> usize
 }
 
 // What the bytes of a stage say that it demands of a resource, and that it weighs in a row; 0 where there is no such byte.
+#[tactic(auto, using(crate::proofs::StageEntries::demand_here, crate::proofs::StageEntries::no_demand))]
 fn demand_in(stage: &[u8], resource: u32) -> u32
     ensures { result ≡ at (stage_in stage.now).demand resource }
 {
@@ -36,6 +38,7 @@ fn demand_in(stage: &[u8], resource: u32) -> u32
     entry_of(stage, resource)
 }
 
+#[tactic(auto, using(crate::proofs::StageEntries::weight_here, crate::proofs::StageEntries::no_weight))]
 fn weight_in(stage: &[u8], row: u32) -> u32
     ensures { result ≡ at (stage_in stage.now).weight row }
 {
@@ -74,6 +77,7 @@ fn held<'a>(
 }
 
 // With the stages of a T, are there at most 128 of all types together?
+#[tactic(auto, unfolding(internals::specs::Internals::stage_index))]
 fn within_total(rec: Record, lengths: &[u8; 16]) -> bool
     ensures { result ≡ within_total lengths.now rec }
 {
