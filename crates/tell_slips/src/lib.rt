@@ -114,6 +114,7 @@ fn fields_slip(bytes: &[u8]) -> Slip
 }
 
 // The slip in a plan's line by the question that it fails.
+#[tactic(auto, unfolding(told_text::specs::Slips::plan_slip))]
 pub fn plan_slip(answer: TextAnswer, part: &[u8]) -> Slip
     ensures { result ≡ plan_slip answer part.now }
 {
@@ -143,6 +144,7 @@ fn event_fields(letter: u8) -> usize
 }
 
 // The slip in a malformed event line that has its LF.
+#[tactic(auto, unfolding(told_text::specs::Slips::event_slip))]
 pub fn event_slip(line: &[u8]) -> Slip
     ensures { result ≡ event_slip line.now }
 {
