@@ -38,6 +38,7 @@ pub fn hold(held: HeldLine, more: &[u8]) -> HeldLine
 }
 
 // What it means when its LF has come. A line that is longer than there is room for is no event line.
+#[tactic(auto, unfolding(desk_text::specs::HeldLine::held_means))]
 pub fn meaning(held: HeldLine) -> EventLine
     ensures { result ≡ held_means held }
 {
