@@ -33,6 +33,7 @@ pub struct Drained {
 }
 
 impl Table {
+    #[tactic(auto, unfolding(events::specs::JobList::list_of))]
     pub fn empty() -> Table
         ensures { result ≡ empty_table }
     {
