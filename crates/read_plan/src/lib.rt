@@ -34,6 +34,7 @@ fn refusal(answer: TextAnswer, line: u32, from: usize, to: usize) -> FramedReadi
 }
 
 // Question 7, asked of the draft after the last line.
+#[tactic(auto, unfolding(plan_text::specs::Reading::is_complete, plan_bytes::specs::Over::plan_over, plan_bytes::specs::Over::plan_read))]
 fn is_complete<'a>(frame: Frame, stages: &'a [u8], bounded: &'a [u8; 32]) -> bool
     ensures { result ≡ is_complete (record { plan = plan_over frame stages.now; bounded = bounded.now; section = 0 }) }
 {
@@ -148,6 +149,7 @@ fn read_lines(text: &[u8]) -> FramedReading
 }
 
 // A plan text read: the answer with the line that decides it and where that line stands in the text, and the plan.
+#[tactic(auto, unfolding(plan_text::specs::Reading::reading))]
 pub fn read(text: &[u8]) -> FramedReading
     ensures { reading_from result ≡ reading text.now }
 {
