@@ -20,6 +20,7 @@ use told_text::Slip;
 use write_lines::put_event_line;
 
 // The slip in a malformed line.
+#[tactic(auto, unfolding(desk_text::specs::HeldLine::held_slip))]
 fn slip_of(held: HeldLine) -> Slip
     ensures { result ≡ held_slip held }
 {
