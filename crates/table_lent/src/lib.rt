@@ -1,5 +1,4 @@
-// The table lent: an event is answered, and its outcome written into the host's own table. `decided` does the work and is
-// covered; `apply`, which is lent the table, is proved by hand.
+// The table lent: an event is answered, and its outcome written into the host's own table. `decided` does the work; `apply` is lent the table.
 #![tactic(auto)]
 
 ghost use Rattle.std.specs.Prelude.{◌≡◌};

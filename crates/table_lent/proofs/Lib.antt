@@ -1,2 +1,0 @@
--- The machine values that walks over a lent table speak of.
-pub mod MachineValues
