@@ -1,4 +1,4 @@
-// A caller's own table, lent to `apply` for one event: callers hand over a table by value and need no proof by hand.
+// A caller's own table, lent to `apply` for one event: callers hand over a table by value.
 #![tactic(auto)]
 
 ghost use Rattle.std.specs.Prelude.{◌≡◌};

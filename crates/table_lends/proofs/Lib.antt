@@ -1,2 +1,0 @@
--- A table lent from a local to `apply`.
-pub mod LentTable
