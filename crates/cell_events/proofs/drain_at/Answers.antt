@@ -48,7 +48,7 @@ returns c =
     let drained = drained_in bytes room budget c.frame_in-frame.ensures c.list_in-list.ensures c.drain-drained.ensures in
     let made = ap (λ x. x.moves) drained in
     let law = drain_moved bytes room budget (omega (arith, made)) in (
-      c.pack.ensures
+      c.pack-2.ensures
           ∙ ap (λ k. packed k c.drain-drained.result.moves 0) (c.end_number-number.ensures ∙ ap (λ x. end_number x.end) drained)
           ∙ ap (λ k. packed (end_number d.end) k 0) made
           ∙ law.0,
