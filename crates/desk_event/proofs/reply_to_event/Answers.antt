@@ -8,8 +8,8 @@ use Rattle.moves_text.proofs.Overlays.{put_as}
 use Rattle.desk_text.specs.Desk.{desk_with}
 use Rattle.desk_event.proofs.reply_to_event.Goals as goal
 
-pub tell_event-requires : goal.tell_event-requires
-tell_event-requires c =
+pub tell_event-m-requires : goal.tell_event-m-requires
+tell_event-m-requires c =
     let number = c.answer_number-number.ensures ∙ ap (λ (o : Outcome). (answer_numbers o.answer).0) c.handle_lent-outcome.ensures in
     let place = c.answer_place-place.ensures ∙ ap (λ (o : Outcome). (answer_numbers o.answer).1) c.handle_lent-outcome.ensures in
     λ i. (number i, place i)

@@ -30,6 +30,6 @@ returns c =
     let a = c.args in
     let p = plan_over a.frame a.stages.now in
     record {
-      fact = put_as a.told a.words.now (refused_told p a.desk.list a.desk.ordinal a.event a.number a.place c.excess_after-excess.result c.requires c.if-number-eq0.false c.excess_after-excess.ensures) c.put_event_message.ensures.0;
-      upper_bound = c.put_event_message.ensures.1;
+      fact = put_as a.told a.words.now (refused_told p a.desk.list a.desk.ordinal a.event a.number a.place c.excess_after-excess.result c.requires c.if-number-eq0.false c.excess_after-excess.ensures) c.put_event_message.ensures.value;
+      upper_bound = c.put_event_message.ensures.upper_bound;
     }
