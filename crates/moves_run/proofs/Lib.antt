@@ -1,0 +1,2 @@
+-- What a turn of the loop that answers the events does.
+pub mod Turn
