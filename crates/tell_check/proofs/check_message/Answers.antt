@@ -1,5 +1,5 @@
 -- The three numbers are those of the check's answer; 0 is that of a plan that meets the rule.
-use Rattle.std.proofs.Common.{ℕ, ◌≡◌, cond, List, [], refl, sym, ap, ◌∙◌, eqb}
+use Rattle.std.proofs.Common.{ℕ, ◌≡◌, cond, List, [], refl, ap, ◌∙◌, eqb}
 use borrow.Author.Tests.{ne_eqb}
 use Rattle.model.specs.Upstream.{check_numbers}
 use Rattle.model.specs.declared.Check.{Check}

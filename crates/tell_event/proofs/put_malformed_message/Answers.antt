@@ -1,10 +1,9 @@
 -- The head, the slip and the LF, each behind those before it, from an offset that is cut to the buffer.
-use Rattle.std.proofs.Common.{arith, refl}
+use Rattle.std.proofs.Common.{refl}
 use Rattle.moves_text.specs.Quoted.{quoted}
 use Rattle.moves_text.proofs.Overlays.{put_then, put_from}
 use Rattle.told_text.specs.Slips.{slip_words}
 use Rattle.told_text.specs.EventMessage.{malformed_message}
-use Rattle.told_text.proofs.Short.{slip_short}
 use Rattle.tell_event.proofs.put_malformed_message.Goals as goal
 
 pub returns-clause-value : goal.returns-clause-value
