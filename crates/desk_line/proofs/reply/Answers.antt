@@ -11,7 +11,7 @@ returns-in-Skipped c =
     let a = c.args in
     record {
       fact = rw (sym c.meaning-line.ensures ∙ c.in-Skipped.is) (
-        (λ i. record { list = a.desk.list; ordinal = a.desk.ordinal; held = c.no_line.ensures i }),
+        (λ i. record { list = a.desk.list; ordinal = a.desk.ordinal; held = c.no_line-same.ensures i }),
         none_put a.put a.out.now,
         none_put a.told a.words.now,
       );

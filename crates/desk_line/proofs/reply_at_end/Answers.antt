@@ -5,12 +5,12 @@ use Rattle.moves_text.proofs.Overlays.{none_put}
 use Rattle.desk_text.specs.Desk.{desk_at_end, out_at_end, told_at_end}
 use Rattle.desk_line.proofs.reply_at_end.Goals as goal
 
-pub returns-then-count-eq0 : goal.returns-then-count-eq0
+pub returns-then-desk-eq0 : goal.returns-then-desk-eq0
 unfolding desk_at_end out_at_end told_at_end
-returns-then-count-eq0 c =
+returns-then-desk-eq0 c =
     let a = c.args in
-    rw (eq-eqb a.desk.held.count 0 c.if-count-eq0.true) (refl, none_put 0 a.out.now, none_put 0 a.words.now)
+    rw (eq-eqb a.desk.held.count 0 c.if-desk-eq0.true) (refl, none_put 0 a.out.now, none_put 0 a.words.now)
 
 pub returns : goal.returns
 unfolding desk_at_end out_at_end told_at_end
-returns c = rw (ne_eqb c.args.desk.held.count 0 c.if-count-eq0.false) c.reply_to_malformed.ensures.desk_value
+returns c = rw (ne_eqb c.args.desk.held.count 0 c.if-desk-eq0.false) c.reply_to_malformed.ensures.desk_value
