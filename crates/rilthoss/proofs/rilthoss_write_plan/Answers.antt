@@ -20,8 +20,8 @@ told bytes room buffer frame is = is ∙ ap (λ p. writing p buffer) (lent_in by
 pub returns-then-cell-lt-CELL : goal.returns-then-cell-lt-CELL
 returns-then-cell-lt-CELL c = let a = c.args in no_write a.cell.now (omega arith) a.buffer.now
 
-pub overflow_cast-pack : goal.overflow_cast-pack
-overflow_cast-pack c =
+pub overflow_cast-written : goal.overflow_cast-written
+overflow_cast-written c =
     let bytes = c.args.cell.now in
     let buffer = c.args.buffer.now in
     omega (arith, ap (λ (w : Writing). w.length) (told bytes (omega arith) buffer c.frame_in-frame.ensures c.write_plan-written.ensures.0), writing_short (plan_in bytes) buffer)
@@ -33,7 +33,7 @@ returns c =
     let room : cell_size ≤ length bytes = omega arith in
     let w = plan_written bytes room buffer in (
       c.pack.ensures
-          ∙ ap (λ n. packed n c.write_plan-written.result.length 0) c.write_number-number.ensures
+          ∙ ap (λ n. packed n c.write_plan-written.result.length 0) c.write_number.ensures
           ∙ ap packed_writing (told bytes room buffer c.frame_in-frame.ensures c.write_plan-written.ensures.0)
           ∙ w.0,
       c.write_plan-written.ensures.1 ∙ ap (λ p. buffer_after p buffer) (lent_in bytes room c.frame_in-frame.ensures) ∙ w.1,
