@@ -1,4 +1,4 @@
-use Rattle.std.proofs.Common.{◌≡◌, sym, ap, ◌∙◌, length, add-one, arith}
+use Rattle.std.proofs.Common.{◌≡◌, sym, ◌∙◌, add-one, arith}
 use Rattle.std.proofs.Math.ListN.{length-set}
 use Rattle.std.proofs.Math.Seq.{take-suc-set, take_all}
 use Rattle.cell_layout.specs.Layout.{job_in, job_size, part_in, jobs_part, list_laid}

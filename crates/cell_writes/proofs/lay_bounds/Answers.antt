@@ -1,4 +1,4 @@
-use Rattle.std.proofs.Common.{◌≡◌, length, refl, add-one, arith}
+use Rattle.std.proofs.Common.{refl, add-one, arith}
 use Rattle.cell_layout.specs.Layout.{bytes_of, offset_of, bounds_part}
 use Rattle.cell_layout.proofs.EntryBytes.{none_written, more_written, all_written, written_length}
 use Rattle.cell_writes.proofs.lay_bounds.Goals as goal

@@ -1,5 +1,5 @@
 -- The entries are laid one behind the other.
-use Rattle.std.proofs.Common.{◌-◌, ◌≤◌, ◌≡◌, length}
+use Rattle.std.proofs.Common.{◌-◌, ◌≤◌, length}
 use Rattle.cell_layout.specs.Layout.{bytes_of, offset_of, bounds_part, cell_size}
 use Rattle.cell_layout.proofs.EntryBytes.{EntriesLaid}
 use Rattle.cell_writes.proofs.lay_bounds.Given as goal

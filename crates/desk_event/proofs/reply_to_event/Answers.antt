@@ -1,8 +1,7 @@
 -- The outcome is that of the table that was lent: its number and place are put, and told of if it is a refusal.
-use Rattle.std.proofs.Common.{◌≡◌, ap, ◌∙◌}
-use Rattle.events.specs.Events.{answer, list_after, answer_numbers}
+use Rattle.std.proofs.Common.{ap, ◌∙◌}
+use Rattle.events.specs.Events.{answer_numbers}
 use Rattle.admission.specs.declared.Outcome.{Outcome}
-use Rattle.plan_bytes.specs.Over.{plan_over}
 use Rattle.moves_text.specs.OutputLines.{event_line}
 use Rattle.moves_text.proofs.Overlays.{put_as}
 use Rattle.desk_text.specs.Desk.{desk_with}

@@ -1,4 +1,4 @@
-use Rattle.std.proofs.Common.{ℕ, ◌≡◌, ◌+◌, ◌≤◌, true, false, length, take, drop, arith}
+use Rattle.std.proofs.Common.{true, false, length, arith}
 use native.Mathlib.Nat.{add-zero}
 use borrow.Author.Tests.{lt-ltb, le-ltb}
 use Rattle.plan_bytes.specs.Over.{plan_over}

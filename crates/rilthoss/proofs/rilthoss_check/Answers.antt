@@ -1,5 +1,5 @@
 -- The check is that of the plan in the bytes.
-use Rattle.std.proofs.Common.{ℕ, List, ◌≡◌, ap, ◌∙◌, arith}
+use Rattle.std.proofs.Common.{ap, ◌∙◌, arith}
 use Rattle.model.specs.Upstream.{check_numbers, check}
 use Rattle.cell_layout.specs.HostAnswers.{packed, packed_check}
 use Rattle.cell_layout.specs.Layout.{plan_in}

@@ -1,6 +1,5 @@
 -- The two ends are those of the reading, and each fits 32 bits.
-use Rattle.std.proofs.Common.{ℕ, ◌≡◌, ◌+◌, ◌*◌, ◌≤◌, List, ap, arith}
-use Rattle.plan_text.specs.TextQuestions.{max_text}
+use Rattle.std.proofs.Common.{◌+◌, ◌*◌, ap, arith}
 use Rattle.plan_text.specs.declared.Reading.{Reading}
 use Rattle.cell_layout.specs.HostAnswers.{shown_answer}
 use Rattle.cell_layout.proofs.ShownFits.{shown_within}

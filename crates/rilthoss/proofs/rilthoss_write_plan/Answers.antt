@@ -1,6 +1,5 @@
 -- What is answered and written is what the writing of the cell's plan says.
 use Rattle.std.proofs.Common.{ℕ, List, ◌≡◌, ◌≤◌, length, ap, ◌∙◌, arith}
-use Rattle.plan_text.specs.TextQuestions.{max_text}
 use Rattle.canonical_text.specs.Writing.{writing, buffer_after}
 use Rattle.canonical_text.specs.declared.Writing.{Writing}
 use Rattle.canonical_text.proofs.WriteAnswers.{writing_short}

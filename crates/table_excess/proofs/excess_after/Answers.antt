@@ -1,6 +1,5 @@
 -- The row's excess, read where the stages stand that the event exchanges.
-use Rattle.std.proofs.Common.{◌≡◌, ◌+◌, ◌-◌, ap, ◌∙◌}
-use Rattle.model.specs.Numbers.{at}
+use Rattle.std.proofs.Common.{ap, ◌∙◌}
 use Rattle.events.specs.declared.JobList.{JobList}
 use Rattle.plan_bytes.specs.Over.{plan_over}
 use Rattle.told_text.specs.EventMessage.{excess_after}
