@@ -6,34 +6,28 @@ use desk_held::start_desk;
 use desk_line::reply_at_end;
 use desk_read::answer_read;
 use desk_text::{Desk, DeskStep};
-use libc::{STDERR_FILENO, STDIN_FILENO, STDOUT_FILENO};
 use moves_head::put_about;
 use plan_bytes::Frame;
 use plan_numbers::text_number;
 use read_lines::part_of;
 use read_plan::read;
+use std::fs::File;
+use std::io::{IsTerminal, Read};
+use std::rt::Env;
+use streams::{has_argument, put, read_full, say, say_failure};
 use tell_plan::plan_message;
 
-fn usage() {
-    io::write_all(
-        STDERR_FILENO,
+fn usage(rt: &HostRuntime) {
+    say(
+        rt,
         b"usage: celldesk PLAN\nIt reads the plan text in the file PLAN, then answers each event line of standard input as soon as it is there.\n",
     );
 }
 
-// Says so where standard output takes nothing more.
-fn print(bytes: &[u8]) -> bool {
-    let written = io::write_all(STDOUT_FILENO, bytes);
-    if !written {
-        io::write_all(STDERR_FILENO, b"the output could not be written\n");
-    }
-    written
-}
-
 // The answers of a step before its words; whether the answers were written.
-fn write_step<'a>(out: &'a [u8], words: &'a [u8], step: DeskStep) -> bool {
-    let written = print(part_of(out, 0, step.put));
-    io::write_all(STDERR_FILENO, part_of(words, 0, step.told));
+fn write_step(rt: &HostRuntime, out: &[u8], words: &[u8], step: DeskStep) -> bool {
+    let written = put(rt, part_of(out, 0, step.put));
+    say(rt, part_of(words, 0, step.told));
     written
 }
 
@@ -44,102 +38,123 @@ struct Turn {
     over: bool,
 }
 
-fn answer_next(desk: Desk, frame: Frame, stages: &[u8], out: &mut [u8], words: &mut [u8]) -> Turn {
+fn answer_end(rt: &HostRuntime, desk: Desk, out: &mut [u8], words: &mut [u8]) -> Turn {
+    let last = reply_at_end(desk, out, words);
+    write_step(rt, out, words, last);
+    Turn { desk, over: true }
+}
+
+fn answer_next(
+    rt: &HostRuntime,
+    desk: Desk,
+    frame: Frame,
+    stages: &[u8],
+    out: &mut [u8],
+    words: &mut [u8],
+) -> Turn {
     let mut input = [0u8; 1024];
-    let got = libc::read(STDIN_FILENO, &mut input);
-    if got <= 0 {
-        if got < 0 {
-            os::fail(b"standard input");
+    match rt.stdin().read(&mut input) {
+        Ok(0) => answer_end(rt, desk, out, words),
+        Ok(n) => {
+            let step = answer_read(desk, frame, stages, &input[..n], out, words);
+            let written = write_step(rt, out, words, step);
+            Turn {
+                desk: step.desk,
+                over: !written,
+            }
         }
-        let last = reply_at_end(desk, out, words);
-        write_step(out, words, last);
-        return Turn { desk, over: true };
-    }
-    let n = io::count(got, &input);
-    let step = answer_read(desk, frame, stages, &input[..n], out, words);
-    let written = write_step(out, words, step);
-    let next = step.desk;
-    Turn {
-        desk: next,
-        over: !written,
+        Err(error) => {
+            say_failure(rt, b"standard input", error);
+            answer_end(rt, desk, out, words)
+        }
     }
 }
 
 // A proved loop has to end: no run uses up as many reads.
-fn serve(frame: Frame, stages: &[u8], out: &mut [u8], words: &mut [u8]) {
+fn serve(rt: &HostRuntime, frame: Frame, stages: &[u8], out: &mut [u8], words: &mut [u8]) {
     let mut desk = start_desk();
-    let mut turns = u64::MAX;
-    while turns > 0 {
-        let done = answer_next(desk, frame, stages, out, words);
+    for _ in 0..u64::MAX {
+        let done = answer_next(rt, desk, frame, stages, out, words);
         if done.over {
             return;
         }
         desk = done.desk;
-        turns -= 1;
     }
 }
 
 // The lines `P` and `Q`.
-fn print_about(number: u32, line: u32, frame: Frame, stages: &[u8]) -> bool {
+fn print_about(rt: &HostRuntime, number: u32, line: u32, frame: Frame, stages: &[u8]) -> bool {
     let mut lines = [0u8; 64];
-    let put = put_about(number, line, frame, stages, &mut lines);
-    print(part_of(&lines, 0, put))
+    let n = put_about(number, line, frame, stages, &mut lines);
+    put(rt, part_of(&lines, 0, n))
 }
 
 // What a person is told of the plan and, at a terminal, of what is awaited.
-fn tell(text: &[u8]) {
+fn tell(rt: &HostRuntime, text: &[u8]) {
     // enough for a refused line with what is said of it
     let mut message = [0u8; 66000];
     let told = plan_message(text, &mut message);
-    io::write_all(STDERR_FILENO, part_of(&message, 0, told));
-    if libc::isatty(STDIN_FILENO) == 1 {
-        io::write_all(
-            STDERR_FILENO,
+    say(rt, part_of(&message, 0, told));
+    if rt.stdin().is_terminal() {
+        say(
+            rt,
             b"Event lines are awaited: L job type, A job, U job or X job, with tabs. Ctrl-D ends.\n",
         );
     }
 }
 
-fn answer(text: &[u8]) {
+fn answer(rt: &HostRuntime, text: &[u8]) {
     let reading = read(text);
     let answer = reading.answer;
     let frame = reading.frame;
     let stages = reading.stages;
-    if !print_about(text_number(answer), reading.line, frame, &stages) {
+    if !print_about(rt, text_number(answer), reading.line, frame, &stages) {
         return;
     }
-    tell(text);
+    tell(rt, text);
     // enough for every read, as `answer_read` promises
     let mut out = [0u8; 86100];
     let mut words = [0u8; 196800];
-    serve(frame, &stages, &mut out, &mut words);
+    serve(rt, frame, &stages, &mut out, &mut words);
 }
 
-fn main() {
-    if os::arg_count() != 2 {
-        usage();
-        return;
-    }
-    let mut path = io::buffer();
-    let length = os::arg(1, &mut path);
-    if os::errno() != 0 {
-        os::fail(b"PLAN");
-        return;
-    }
-    let fd = os::open_read(&path[..length]);
-    if fd < 0 {
-        os::fail(&path[..length]);
-        return;
-    }
+fn answer_file(rt: &HostRuntime, name: &[u8], mut file: File) {
     // one byte more than is taken, so that a longer text is noticed
     let mut text = [0u8; 65537];
-    let n = io::read_full(fd, &mut text);
+    let n = read_full(&mut file, &mut text);
     // `read_full` stops at a failure as at the end: one more read tells them apart
     let mut more = [0u8; 1];
-    if libc::read(fd, &mut more) < 0 {
-        os::fail(&path[..length]);
+    match file.read(&mut more) {
+        Ok(_) => {
+            drop(file);
+            answer(rt, &text[..n]);
+        }
+        Err(error) => say_failure(rt, name, error),
+    }
+}
+
+// The library opens a file by a name that is UTF-8 text.
+fn answer_named(rt: &HostRuntime, name: &[u8]) {
+    match std::str::from_utf8(name) {
+        Ok(path) => match File::open(rt, path) {
+            Ok(file) => answer_file(rt, name, file),
+            Err(error) => say_failure(rt, name, error),
+        },
+        Err(_) => {
+            say(rt, name);
+            say(rt, b": the name is not UTF-8\n");
+        }
+    }
+}
+
+fn main(rt: HostRuntime) {
+    if !has_argument(&rt, 1) | has_argument(&rt, 2) {
+        usage(&rt);
         return;
     }
-    libc::close(fd);
-    answer(&text[..n]);
+    let mut path = [0u8; 4096];
+    match rt.arg(1, &mut path) {
+        Ok(length) => answer_named(&rt, &path[..length]),
+        Err(_) => say(&rt, b"PLAN: File name too long\n"),
+    }
 }

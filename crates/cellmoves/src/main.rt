@@ -2,45 +2,44 @@
 // is told of a refused plan, on standard error, is that of `tell_plan`.
 #![tactic(auto)]
 
-use libc::{STDERR_FILENO, STDIN_FILENO, STDOUT_FILENO};
 use moves_run::{ENOUGH, answer_input};
 use read_lines::part_of;
+use std::io::IsTerminal;
+use streams::{has_argument, put, read_full, say};
 use tell_plan::input_message;
 
-fn answer(input: &[u8], buffer: &mut [u8]) {
+fn answer(rt: &HostRuntime, input: &[u8], buffer: &mut [u8]) {
     let printed = answer_input(input, buffer);
-    if !io::write_all(STDOUT_FILENO, part_of(buffer, 0, printed)) {
-        io::write_all(STDERR_FILENO, b"the output could not be written\n");
-    }
+    put(rt, part_of(buffer, 0, printed));
     let said = input_message(input, buffer);
-    io::write_all(STDERR_FILENO, part_of(buffer, 0, said));
+    say(rt, part_of(buffer, 0, said));
 }
 
 // Any argument asks how to use the program: then nothing is read. A terminal is told what is awaited.
-fn is_asked() -> bool {
-    if os::arg_count() != 1 {
-        io::write_all(
-            STDERR_FILENO,
+fn is_asked(rt: &HostRuntime) -> bool {
+    if has_argument(rt, 1) {
+        say(
+            rt,
             b"usage: cellmoves < INPUT\nIt takes no argument: a plan, a line E and event lines come on standard input.\n",
         );
         return false;
     }
-    if libc::isatty(STDIN_FILENO) == 1 {
-        io::write_all(
-            STDERR_FILENO,
+    if rt.stdin().is_terminal() {
+        say(
+            rt,
             b"A plan, a line E and event lines are awaited. Ctrl-D ends them, and then they are answered.\n",
         );
     }
     true
 }
 
-fn main() {
-    if !is_asked() {
+fn main(rt: HostRuntime) {
+    if !is_asked(&rt) {
         return;
     }
     // one byte more than is taken, so that a longer input is noticed
     let mut input = [0u8; 65537];
     let mut buffer = [0u8; ENOUGH];
-    let n = io::read_full(STDIN_FILENO, &mut input);
-    answer(&input[..n], &mut buffer);
+    let n = read_full(&mut rt.stdin(), &mut input);
+    answer(&rt, &input[..n], &mut buffer);
 }

@@ -4,7 +4,7 @@ use arithmetic::at_most;
 use canonical_text::Writing;
 use write_plan::write_plan;
 
-#[derive(Drop)]
+#[derive(Clone, Copy)]
 pub(crate) struct Dotted {
     pub writing: Writing,
     pub changed: usize,

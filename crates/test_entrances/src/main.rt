@@ -19,12 +19,13 @@ mod table;
 
 use crate::plan::Plan;
 use admission::Table;
-use libc::STDIN_FILENO;
 use line::field;
 use read_lines::line_end;
+use std::io::Stdout;
+use streams::read_full;
 
 // A plan and a table, which need not go together.
-#[derive(Drop)]
+#[derive(Clone, Copy)]
 struct Cell {
     plan: Plan,
     table: Table,
@@ -37,7 +38,7 @@ fn empty() -> Cell {
     }
 }
 
-fn next(c: Cell, letter: u8, line: &[u8]) -> Cell {
+fn next(to: Stdout, c: Cell, letter: u8, line: &[u8]) -> Cell {
     let x = field(line, 1);
     let y = field(line, 2);
     let z = field(line, 3);
@@ -46,11 +47,11 @@ fn next(c: Cell, letter: u8, line: &[u8]) -> Cell {
     let t = table::with(c.table, letter, x, y, z, w);
     Cell {
         plan,
-        table: ask::asked(plan, t, letter, line, x, y, z, w),
+        table: ask::asked(to, plan, t, letter, line, x, y, z, w),
     }
 }
 
-fn run(text: &[u8]) {
+fn run(to: Stdout, text: &[u8]) {
     let mut cell = empty();
     let mut kept = cell;
     let mut at = 0;
@@ -62,15 +63,15 @@ fn run(text: &[u8]) {
         if letter == b'=' {
             cell = kept;
         }
-        cell = next(cell, letter, line);
+        cell = next(to, cell, letter, line);
         if letter == b'>' {
             kept = cell;
         }
     }
 }
 
-fn main() {
-    let mut text = io::large_buffer();
-    let n = io::read_full(STDIN_FILENO, &mut text);
-    run(&text[..n]);
+fn main(rt: HostRuntime) {
+    let mut text = [0u8; 65536];
+    let n = read_full(&mut rt.stdin(), &mut text);
+    run(rt.stdout(), &text[..n]);
 }

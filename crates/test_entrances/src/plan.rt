@@ -3,7 +3,7 @@ use plan_bytes::Frame;
 use plan_empty::empty_frame;
 
 // A plan by its frame and the bytes of its stages.
-#[derive(Drop)]
+#[derive(Clone, Copy)]
 pub(crate) struct Plan {
     pub frame: Frame,
     pub stages: [u8; 8192],

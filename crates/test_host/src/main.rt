@@ -5,22 +5,23 @@
 
 use admission::Table;
 use events::{Answer, Event};
-use libc::{STDIN_FILENO, STDOUT_FILENO};
 use moves_input::{event_of, plan_length};
 use moves_text::EventLine;
 use plan_bytes::Frame;
 use read_lines::{LineReader, part_of};
 use read_plan::read;
+use std::io::Stdout;
+use streams::read_full;
 use table_lent::apply;
 use table_numbers::{answer_number, answer_place};
 
-fn write(bytes: &[u8]) {
-    io::write_all(STDOUT_FILENO, bytes);
+fn put(to: Stdout, bytes: &[u8]) {
+    let _ = to.write_all(bytes);
 }
 
-fn number(n: u64) {
-    write(b"\t");
-    io::print_decimal(STDOUT_FILENO, n);
+fn number(to: Stdout, n: u64) {
+    put(to, b"\t");
+    let _ = to.print(n);
 }
 
 fn event_in(line: &[u8], ended: bool) -> Event {
@@ -32,21 +33,21 @@ fn event_in(line: &[u8], ended: bool) -> Event {
     }
 }
 
-fn tell(line: &[u8], ended: bool, answer: Answer, table: Table) {
-    write(line);
+fn tell(to: Stdout, line: &[u8], ended: bool, answer: Answer, table: Table) {
+    put(to, line);
     if ended {
-        write(b"\tLF");
+        put(to, b"\tLF");
     } else {
-        write(b"\tcut");
+        put(to, b"\tcut");
     }
-    number(answer_number(answer) as u64);
-    number(answer_place(answer) as u64);
-    number(table.list.count as u64);
-    write(b"\n");
+    number(to, answer_number(answer) as u64);
+    number(to, answer_place(answer) as u64);
+    number(to, table.list.count as u64);
+    put(to, b"\n");
 }
 
 // The host: it keeps the table from line to line.
-fn answer_lines(frame: Frame, stages: &[u8], text: &[u8]) {
+fn answer_lines(to: Stdout, frame: Frame, stages: &[u8], text: &[u8]) {
     let mut table = Table::empty();
     let mut reader = LineReader::new(text);
     loop {
@@ -56,17 +57,18 @@ fn answer_lines(frame: Frame, stages: &[u8], text: &[u8]) {
         }
         let event = event_in(line.bytes, line.ended);
         let answer = apply(&mut table, frame, stages, event);
-        tell(line.bytes, line.ended, answer, table);
+        tell(to, line.bytes, line.ended, answer, table);
     }
 }
 
-fn main() {
-    let mut input = io::large_buffer();
-    let n = io::read_full(STDIN_FILENO, &mut input);
+fn main(rt: HostRuntime) {
+    let mut input = [0u8; 65536];
+    let n = read_full(&mut rt.stdin(), &mut input);
     let text = &input[..n];
     let plan_end = plan_length(text);
     let reading = read(part_of(text, 0, plan_end));
     answer_lines(
+        rt.stdout(),
         reading.frame,
         &reading.stages,
         part_of(text, plan_end + 2, n),

@@ -7,7 +7,7 @@ use admission::{Outcome, Table};
 use plan_bytes::Frame;
 
 // The states found, bit n of `found` for number n of Table 1 and bit 47 for one that it lacks, with a table of each.
-#[derive(Drop)]
+#[derive(Clone, Copy)]
 pub(crate) struct Space {
     pub found: u64,
     pub tables: [Table; 48],

@@ -7,12 +7,13 @@ use crate::checksum::of_bytes;
 use crate::lent::{put, put_within, restore, untouched};
 use crate::show::{number, write};
 use read_lines::{line_end, part_of};
+use std::io::Stdout;
 
 // The line from an offset on.
-fn line_from(s: &[u8], at: usize) {
+fn line_from(to: Stdout, s: &[u8], at: usize) {
     let line = part_of(s, at, line_end(s, at));
-    write(part_of(line, 0, 60));
-    write(b"\n");
+    write(to, part_of(line, 0, 60));
+    write(to, b"\n");
 }
 
 // Where the last line begins.
@@ -30,23 +31,23 @@ fn last_line(s: &[u8]) -> usize {
     at
 }
 
-fn text(s: &[u8]) {
+fn text(to: Stdout, s: &[u8]) {
     if s.len() <= 400 {
-        write(s);
+        write(to, s);
         return;
     }
-    write(b"long");
-    number(of_bytes(s));
-    write(b"\n");
-    line_from(s, 0);
-    line_from(s, last_line(s));
+    write(to, b"long");
+    number(to, of_bytes(s));
+    write(to, b"\n");
+    line_from(to, s, 0);
+    line_from(to, s, last_line(s));
 }
 
-fn verdict(kept: bool) {
+fn verdict(to: Stdout, kept: bool) {
     if kept {
-        write(b"\tkept\n");
+        write(to, b"\tkept\n");
     } else {
-        write(b"\tchanged\n");
+        write(to, b"\tchanged\n");
     }
 }
 
@@ -55,23 +56,23 @@ fn sum_of(out: &[u8], n: usize) -> u64 {
 }
 
 // In a buffer that is long enough: the text, and its length.
-fn in_whole(message: bool, label: &[u8], input: &[u8], out: &mut [u8]) -> usize {
+fn in_whole(to: Stdout, message: bool, label: &[u8], input: &[u8], out: &mut [u8]) -> usize {
     let n = put(message, input, out);
-    text(part_of(out, 0, n));
-    write(label);
-    number(n as u64);
+    text(to, part_of(out, 0, n));
+    write(to, label);
+    number(to, n as u64);
     n
 }
 
 // In a buffer of just that length: whether the text is the one with this checksum.
-fn in_exact(message: bool, input: &[u8], out: &mut [u8], n: usize, sum: u64) -> bool {
-    number(put_within(message, input, out, n) as u64);
+fn in_exact(to: Stdout, message: bool, input: &[u8], out: &mut [u8], n: usize, sum: u64) -> bool {
+    number(to, put_within(message, input, out, n) as u64);
     sum_of(out, n) == sum
 }
 
 // In a buffer of one byte less: whether a message is there up to its last byte, with this checksum, and of an output nothing.
-fn in_short(message: bool, input: &[u8], out: &mut [u8], n: usize, sum: u64) -> bool {
-    number(put_within(message, input, out, n) as u64);
+fn in_short(to: Stdout, message: bool, input: &[u8], out: &mut [u8], n: usize, sum: u64) -> bool {
+    number(to, put_within(message, input, out, n) as u64);
     if message {
         sum_of(out, n) == sum && untouched(out, n)
     } else {
@@ -83,26 +84,26 @@ fn one_less(n: usize) -> usize {
     if n == 0 { 0 } else { n - 1 }
 }
 
-fn shown(message: bool, label: &[u8], input: &[u8], out: &mut [u8]) {
-    let n = in_whole(message, label, input, out);
+fn shown(to: Stdout, message: bool, label: &[u8], input: &[u8], out: &mut [u8]) {
+    let n = in_whole(to, message, label, input, out);
     let less = one_less(n);
     let sum = sum_of(out, n);
     let sum_of_less = sum_of(out, less);
     let whole = untouched(out, n);
     restore(out, n);
-    let exact = in_exact(message, input, out, n, sum);
+    let exact = in_exact(to, message, input, out, n, sum);
     restore(out, n);
-    let short = in_short(message, input, out, less, sum_of_less);
+    let short = in_short(to, message, input, out, less, sum_of_less);
     restore(out, n);
-    verdict(whole && exact && short);
+    verdict(to, whole && exact && short);
 }
 
 // The input is the first n bytes of the buffer.
-pub(crate) fn case(name: &[u8], buffer: &[u8], n: usize, out: &mut [u8]) {
+pub(crate) fn case(to: Stdout, name: &[u8], buffer: &[u8], n: usize, out: &mut [u8]) {
     let input = part_of(buffer, 0, n);
-    write(name);
-    write(b"\n");
-    shown(false, b"output", input, out);
-    shown(true, b"message", input, out);
-    write(b"\n");
+    write(to, name);
+    write(to, b"\n");
+    shown(to, false, b"output", input, out);
+    shown(to, true, b"message", input, out);
+    write(to, b"\n");
 }

@@ -17,24 +17,32 @@ mod show;
 mod text;
 
 use byte_slices::find;
-use libc::STDIN_FILENO;
 use read_lines::line_end;
+use std::io::Stdout;
+use streams::read_full;
 use text::{Buffer, put_text};
 
-fn case(name: &[u8], line: &[u8], buffer: &mut Buffer, kept: usize) -> usize {
+fn case(to: Stdout, name: &[u8], line: &[u8], buffer: &mut Buffer, kept: usize) -> usize {
     let n = put_text(line, name.len(), buffer, kept);
-    show::case(name, buffer, n);
+    show::case(to, name, buffer, n);
     kept
 }
 
-fn input(name: &[u8], line: &[u8], buffer: &mut Buffer, kept: usize, out: &mut [u8]) -> usize {
+fn input(
+    to: Stdout,
+    name: &[u8],
+    line: &[u8],
+    buffer: &mut Buffer,
+    kept: usize,
+    out: &mut [u8],
+) -> usize {
     let n = put_text(line, name.len() + 1, buffer, kept);
-    inputs::case(name, buffer, n, out);
+    inputs::case(to, name, buffer, n, out);
     kept
 }
 
 // Without a space the text is empty. Hands back how many bytes of the buffer the next texts begin with.
-fn next(line: &[u8], buffer: &mut Buffer, kept: usize, out: &mut [u8]) -> usize {
+fn next(to: Stdout, line: &[u8], buffer: &mut Buffer, kept: usize, out: &mut [u8]) -> usize {
     let end = find(line, 0, line.len(), b' ');
     if end == 0 {
         return kept;
@@ -42,30 +50,30 @@ fn next(line: &[u8], buffer: &mut Buffer, kept: usize, out: &mut [u8]) -> usize 
     match line[0] {
         b'#' => kept,
         b'>' => put_text(line, end, buffer, 0),
-        b'+' => input(&line[1..end], line, buffer, kept, out),
-        _ => case(&line[0..end], line, buffer, kept),
+        b'+' => input(to, &line[1..end], line, buffer, kept, out),
+        _ => case(to, &line[0..end], line, buffer, kept),
     }
 }
 
-fn run(cases: &[u8], buffer: &mut Buffer, out: &mut [u8]) {
+fn run(to: Stdout, cases: &[u8], buffer: &mut Buffer, out: &mut [u8]) {
     let mut kept = 0;
     let mut at = 0;
     while at < cases.len() {
         let end = line_end(cases, at);
-        kept = next(&cases[at..end], buffer, kept, out);
+        kept = next(to, &cases[at..end], buffer, kept, out);
         at = end + 1;
     }
 }
 
 // The buffer that a case's text is put into, and the one that is lent to an entrance.
-fn run_in_buffers(cases: &[u8]) {
+fn run_in_buffers(to: Stdout, cases: &[u8]) {
     let mut buffer = [0u8; 65600];
     let mut out = [lent::UNTOUCHED; moves_run::ENOUGH];
-    run(cases, &mut buffer, &mut out);
+    run(to, cases, &mut buffer, &mut out);
 }
 
-fn main() {
-    let mut cases = io::large_buffer();
-    let n = io::read_full(STDIN_FILENO, &mut cases);
-    run_in_buffers(&cases[..n]);
+fn main(rt: HostRuntime) {
+    let mut cases = [0u8; 65536];
+    let n = read_full(&mut rt.stdin(), &mut cases);
+    run_in_buffers(rt.stdout(), &cases[..n]);
 }

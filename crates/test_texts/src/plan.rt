@@ -6,6 +6,7 @@ use plan_bytes::Frame;
 use plan_numbers::{check_first, check_number, check_second};
 use plan_soundness::is_sound;
 use plan_upstream::upstream_check;
+use std::io::Stdout;
 
 fn with_stage(h: u64, stages: &[u8; 8192], at: usize) -> u64 {
     let mut h = h;
@@ -35,27 +36,27 @@ fn with_entries(h: u64, frame: Frame, stages: &[u8; 8192]) -> u64 {
     h
 }
 
-fn show_check(frame: Frame, stages: &[u8; 8192]) {
+fn show_check(to: Stdout, frame: Frame, stages: &[u8; 8192]) {
     let c = upstream_check(frame, stages);
-    short(check_number(c));
-    short(check_first(c));
-    short(check_second(c));
+    short(to, check_number(c));
+    short(to, check_first(c));
+    short(to, check_second(c));
 }
 
-pub(crate) fn show(frame: Frame, stages: &[u8; 8192]) {
+pub(crate) fn show(to: Stdout, frame: Frame, stages: &[u8; 8192]) {
     let counts = with_byte(
         with_byte(with_byte(0, frame.resources), frame.types),
         frame.rows,
     );
     let h = with_entries(counts, frame, stages);
     if h == 0 {
-        write(b"\tempty");
+        write(to, b"\tempty");
         return;
     }
-    number(frame.resources as u64);
-    number(frame.types as u64);
-    number(frame.rows as u64);
-    number(h);
-    number(is_sound(frame, stages) as u64);
-    show_check(frame, stages);
+    number(to, frame.resources as u64);
+    number(to, frame.types as u64);
+    number(to, frame.rows as u64);
+    number(to, h);
+    number(to, is_sound(frame, stages) as u64);
+    show_check(to, frame, stages);
 }

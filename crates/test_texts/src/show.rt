@@ -1,21 +1,21 @@
 // What is written of a plan text, each after a tab: its name, the answer's number, the line, where the line that decides begins and
 // ends, the length of the part shown and its first 20 bytes, with a space for a tab and ? for a byte that is not 33 to 126, and
 // the plan (plan.rt).
-use libc::STDOUT_FILENO;
 use plan_numbers::text_number;
 use read_plan::{read, shown_line};
+use std::io::Stdout;
 
-pub(crate) fn write(s: &[u8]) {
-    io::write_all(STDOUT_FILENO, s);
+pub(crate) fn write(to: Stdout, s: &[u8]) {
+    let _ = to.write_all(s);
 }
 
-pub(crate) fn number(x: u64) {
-    write(b"\t");
-    io::print_decimal(STDOUT_FILENO, x);
+pub(crate) fn number(to: Stdout, x: u64) {
+    write(to, b"\t");
+    let _ = to.print(x);
 }
 
-pub(crate) fn short(x: u32) {
-    number(x as u64);
+pub(crate) fn short(to: Stdout, x: u32) {
+    number(to, x as u64);
 }
 
 fn printed(b: u8) -> u8 {
@@ -26,35 +26,35 @@ fn printed(b: u8) -> u8 {
     }
 }
 
-fn part(s: &[u8]) {
+fn part(to: Stdout, s: &[u8]) {
     let mut i = 0;
     while i < s.len() {
         if i < 20 {
-            write(&[printed(s[i])]);
+            write(to, &[printed(s[i])]);
         }
         i += 1;
     }
 }
 
-fn answered(text: &[u8]) {
+fn answered(to: Stdout, text: &[u8]) {
     let r = read(text);
     let answer = r.answer;
-    short(text_number(answer));
-    short(r.line);
-    number(r.from as u64);
-    number(r.to as u64);
+    short(to, text_number(answer));
+    short(to, r.line);
+    number(to, r.from as u64);
+    number(to, r.to as u64);
     let shown = shown_line(text);
-    number(shown.len() as u64);
-    write(b"\t");
-    part(shown);
-    crate::plan::show(r.frame, &r.stages);
+    number(to, shown.len() as u64);
+    write(to, b"\t");
+    part(to, shown);
+    crate::plan::show(to, r.frame, &r.stages);
 }
 
 // The text is the first n bytes of the buffer.
-pub(crate) fn case(name: &[u8], buffer: &[u8], n: usize) {
+pub(crate) fn case(to: Stdout, name: &[u8], buffer: &[u8], n: usize) {
     if n <= buffer.len() {
-        write(name);
-        answered(&buffer[0..n]);
-        write(b"\n");
+        write(to, name);
+        answered(to, &buffer[0..n]);
+        write(to, b"\n");
     }
 }

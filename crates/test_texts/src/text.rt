@@ -5,7 +5,7 @@ pub(crate) type Buffer = [u8; 65600];
 
 // Where the line is read and how many bytes are there; where the repetition goes on that was begun last, its turn and its
 // last turn; the number up to here between < and > or between ( and *, and whether one is being read.
-#[derive(Drop)]
+#[derive(Clone, Copy)]
 struct Writer {
     at: usize,
     n: usize,
