@@ -45,7 +45,7 @@ pub fn part_of(text: &[u8], from: usize, to: usize) -> &[u8]
 }
 
 // The line reader: it keeps a reference to a text and its position in it.
-#[derive(Drop)]
+#[derive(Clone, Copy)]
 pub struct LineReader<'a> {
     pub text: &'a [u8],
     pub at: usize,
