@@ -4,28 +4,27 @@
 ghost use Rattle.std.specs.Prelude.{◌≡◌, ◌+◌, ◌≤◌, ◌++◌, length, take, drop};
 ghost use Rattle.byte_slices.specs.Bytes.{slice, index_of};
 
-// Into the front of a slice; what lies behind stays.
+// Into the front of a slice, as many as it has room for; what lies behind stays.
 pub fn copy(from: &[u8], to: &mut [u8])
-    requires { length from.now ≤ length to.old }
-    ensures { to.new ≡ from.now ++ drop (length from.now) to.old }
+    ensures front { to.new ≡ take (length to.old) from.now ++ drop (length from.now) to.old }
+    ensures whole { length from.now ≤ length to.old → to.new ≡ from.now ++ drop (length from.now) to.old }
 {
-    let n = from.len();
-    to[..n].copy_from_slice(from);
+    let n = from.len().min(to.len());
+    to[..n].copy_from_slice(&from[..n]);
 }
 
-// Where a byte stands first from one offset on and below another; that other, where it stands nowhere there.
+// Where a byte stands first from one offset on and below another, as far as there are bytes; where it stands nowhere there, the end of what was searched.
 pub fn find(bytes: &[u8], from: usize, to: usize, byte: u8) -> usize
-    requires start { from ≤ to }
-    requires end { to ≤ length bytes.now }
     ensures first { result ≡ from + index_of byte (slice from to bytes.now) }
-    ensures within { result ≤ to }
+    ensures within { from ≤ to → result ≤ to }
 {
+    let end = to.min(bytes.len());
     let mut i = from;
-    while i < to {
+    while i < end {
         if bytes[i] == byte {
             return i;
         }
         i += 1;
     }
-    to
+    i
 }

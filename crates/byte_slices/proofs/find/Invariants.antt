@@ -7,9 +7,9 @@ abbrev pub invariant-loop-i : goal.invariant-loop-i
 invariant-loop-i l =
     record {
       low : l.from ≤ l.i;
-      high : l.i ≤ l.to;
+      high : l.from ≤ l.to → l.i ≤ l.to;
       same : l.from + index_of l.byte (slice l.from l.to l.bytes) ≡ l.i + index_of l.byte (slice l.i l.to l.bytes);
     }
 
 abbrev pub decreases-loop-i : goal.decreases-loop-i
-decreases-loop-i l = l.to - l.i
+decreases-loop-i l = l.end - l.i

@@ -16,7 +16,7 @@ left line at end count numbers same within found = same ∙ ap (fields_on count 
 
 pub loop-at-init : goal.loop-at-init
 loop-at-init c =
-    record { within = c.find-at.ensures.within; few = omega arith; same = ap fields_read (first_tab c.args.line.now c.find-at.result c.find-at.ensures.first) }
+    record { within = c.find-at.ensures.within (omega arith); few = omega arith; same = ap fields_read (first_tab c.args.line.now c.find-at.result c.find-at.ensures.first) }
 
 pub returns-then-x-eq-NO_VALUE : goal.returns-then-x-eq-NO_VALUE
 returns-then-x-eq-NO_VALUE c =
@@ -41,7 +41,7 @@ loop-at-preserved c =
     let end = c.find-end.result in
     let few : k.count < 4 = omega arith in
     record {
-      within = c.find-end.ensures.within;
+      within = c.find-end.ensures.within (omega arith);
       few = omega arith;
       same =
           left line k.at end k.count k.numbers k.invariant.same c.loop-at-test.true c.find-end.ensures.first
