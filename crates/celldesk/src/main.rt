@@ -11,11 +11,43 @@ use plan_bytes::Frame;
 use plan_numbers::text_number;
 use read_lines::part_of;
 use read_plan::read;
+use std::env::FillError;
 use std::fs::File;
+use std::io;
 use std::io::{IsTerminal, Read};
 use std::rt::Env;
-use streams::{has_argument, put, read_full, say, say_failure};
+use streams::{put, read_full};
 use tell_plan::plan_message;
+
+// Number 0 is the program's own name.
+fn has_argument(rt: &HostRuntime, number: usize) -> bool {
+    let mut start = [0u8; 1];
+    !matches!(rt.arg(number, &mut start), Err(FillError::NotPresent))
+}
+
+// To standard error. What that does not take is lost.
+fn say(rt: &HostRuntime, words: &[u8]) {
+    put(&mut rt.stderr(), words);
+}
+
+// Without the number that std writes behind the system's words.
+fn reason(text: &str) -> &str {
+    match text.split_once(" (os error ") {
+        Some((words, _)) => words,
+        None => text,
+    }
+}
+
+// A name, and why the system refused it.
+fn say_failure(rt: &HostRuntime, name: &[u8], error: io::Error) {
+    say(rt, name);
+    say(rt, b": ");
+    match format!(in rt.alloc(); "{error}") {
+        Ok(text) => say(rt, reason(text.as_str()).as_bytes()),
+        Err(_) => say(rt, b"out of memory"),
+    }
+    say(rt, b"\n");
+}
 
 fn usage(rt: &HostRuntime) {
     say(
@@ -24,9 +56,18 @@ fn usage(rt: &HostRuntime) {
     );
 }
 
+// Says so where standard output takes nothing more.
+fn print(rt: &HostRuntime, bytes: &[u8]) -> bool {
+    let written = put(&mut rt.stdout(), bytes);
+    if !written {
+        say(rt, b"the output could not be written\n");
+    }
+    written
+}
+
 // The answers of a step before its words; whether the answers were written.
 fn write_step(rt: &HostRuntime, out: &[u8], words: &[u8], step: DeskStep) -> bool {
-    let written = put(rt, part_of(out, 0, step.put));
+    let written = print(rt, part_of(out, 0, step.put));
     say(rt, part_of(words, 0, step.told));
     written
 }
@@ -86,7 +127,7 @@ fn serve(rt: &HostRuntime, frame: Frame, stages: &[u8], out: &mut [u8], words: &
 fn print_about(rt: &HostRuntime, number: u32, line: u32, frame: Frame, stages: &[u8]) -> bool {
     let mut lines = [0u8; 64];
     let n = put_about(number, line, frame, stages, &mut lines);
-    put(rt, part_of(&lines, 0, n))
+    print(rt, part_of(&lines, 0, n))
 }
 
 // What a person is told of the plan and, at a terminal, of what is awaited.
@@ -121,7 +162,7 @@ fn answer(rt: &HostRuntime, text: &[u8]) {
 fn answer_file(rt: &HostRuntime, name: &[u8], mut file: File) {
     // one byte more than is taken, so that a longer text is noticed
     let mut text = [0u8; 65537];
-    let n = read_full(&mut file, &mut text);
+    let n = read_full(&mut file, &mut text).count;
     // `read_full` stops at a failure as at the end: one more read tells them apart
     let mut more = [0u8; 1];
     match file.read(&mut more) {

@@ -4,29 +4,34 @@
 
 use moves_run::{ENOUGH, answer_input};
 use read_lines::part_of;
+use std::env::FillError;
 use std::io::IsTerminal;
-use streams::{has_argument, put, read_full, say};
+use std::rt::Env;
+use streams::{put, read_full};
 use tell_plan::input_message;
 
 fn answer(rt: &HostRuntime, input: &[u8], buffer: &mut [u8]) {
     let printed = answer_input(input, buffer);
-    put(rt, part_of(buffer, 0, printed));
+    if !put(&mut rt.stdout(), part_of(buffer, 0, printed)) {
+        put(&mut rt.stderr(), b"the output could not be written\n");
+    }
     let said = input_message(input, buffer);
-    say(rt, part_of(buffer, 0, said));
+    put(&mut rt.stderr(), part_of(buffer, 0, said));
 }
 
 // Any argument asks how to use the program: then nothing is read. A terminal is told what is awaited.
 fn is_asked(rt: &HostRuntime) -> bool {
-    if has_argument(rt, 1) {
-        say(
-            rt,
+    let mut start = [0u8; 1];
+    if !matches!(rt.arg(1, &mut start), Err(FillError::NotPresent)) {
+        put(
+            &mut rt.stderr(),
             b"usage: cellmoves < INPUT\nIt takes no argument: a plan, a line E and event lines come on standard input.\n",
         );
         return false;
     }
     if rt.stdin().is_terminal() {
-        say(
-            rt,
+        put(
+            &mut rt.stderr(),
             b"A plan, a line E and event lines are awaited. Ctrl-D ends them, and then they are answered.\n",
         );
     }
@@ -40,6 +45,6 @@ fn main(rt: HostRuntime) {
     // one byte more than is taken, so that a longer input is noticed
     let mut input = [0u8; 65537];
     let mut buffer = [0u8; ENOUGH];
-    let n = read_full(&mut rt.stdin(), &mut input);
+    let n = read_full(&mut rt.stdin(), &mut input).count;
     answer(&rt, &input[..n], &mut buffer);
 }

@@ -3,30 +3,35 @@
 #![tactic(auto)]
 
 use read_lines::part_of;
+use std::env::FillError;
 use std::io::IsTerminal;
-use streams::{has_argument, put, read_full, say};
+use std::rt::Env;
+use streams::{put, read_full};
 use tell_plan::text_message;
 use write_canonical::canonical_form;
 
 fn answer(rt: &HostRuntime, text: &[u8], buffer: &mut [u8]) {
     let printed = canonical_form(text, buffer);
-    put(rt, part_of(buffer, 0, printed));
+    if !put(&mut rt.stdout(), part_of(buffer, 0, printed)) {
+        put(&mut rt.stderr(), b"the output could not be written\n");
+    }
     let said = text_message(text, buffer);
-    say(rt, part_of(buffer, 0, said));
+    put(&mut rt.stderr(), part_of(buffer, 0, said));
 }
 
 // Any argument asks how to use the program: then nothing is read. A terminal is told what is awaited.
 fn is_asked(rt: &HostRuntime) -> bool {
-    if has_argument(rt, 1) {
-        say(
-            rt,
+    let mut start = [0u8; 1];
+    if !matches!(rt.arg(1, &mut start), Err(FillError::NotPresent)) {
+        put(
+            &mut rt.stderr(),
             b"usage: cellplan < PLAN\nIt takes no argument: a plan text comes on standard input.\n",
         );
         return false;
     }
     if rt.stdin().is_terminal() {
-        say(
-            rt,
+        put(
+            &mut rt.stderr(),
             b"A plan text is awaited. Ctrl-D ends it, and then it is printed.\n",
         );
     }
@@ -41,6 +46,6 @@ fn main(rt: HostRuntime) {
     let mut text = [0u8; 65537];
     // enough for every output, and for a refused line with what is said of it
     let mut buffer = [0u8; 66000];
-    let n = read_full(&mut rt.stdin(), &mut text);
+    let n = read_full(&mut rt.stdin(), &mut text).count;
     answer(&rt, &text[..n], &mut buffer);
 }

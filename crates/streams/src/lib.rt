@@ -1,69 +1,96 @@
-// What the programs share: reading into a buffer, writing out, words for a person, and whether there is an argument.
+// What the programs share: a buffer filled from a reader, and bytes written out whole. What a reader has left and what a writer holds are std's words, which
+// speak of those that know it, as a slice and a vector do.
 #![tactic(auto)]
 
-ghost use Rattle.std.specs.Prelude.{◌≤◌, length, take};
-ghost use Rattle.std.specs.Io.KnownBytes.{Consumes};
+ghost use Rattle.std.specs.Prelude.{◌≡◌, ◌≤◌, ◌<◌, true, false, length, take};
+ghost use Rattle.std.specs.Io.KnownBytes.{Appends, Consumes, IsAtEnd};
 
-use std::env::FillError;
-use std::io;
-use std::io::Read;
-use std::rt::Env;
+use std::io::{Read, Write};
 
-// Reads until the buffer is full, the input ends or a read fails, and hands back how many bytes came.
-pub fn read_full<R: Read>(from: &mut R, buffer: &mut [u8]) -> usize
-    ensures bound { result ≤ length buffer.new }
-    ensures bytes { Consumes (R.remaining from.old) (R.remaining from.new) (take result buffer.new) }
+// How many bytes came, and whether a read failed behind them.
+#[derive(Clone, Copy)]
+pub struct Filled {
+    pub count: usize,
+    pub failed: bool,
+}
+
+// Reads until the buffer is full, the input ends or a read fails.
+pub fn read_full<R: Read>(from: &mut R, buffer: &mut [u8]) -> Filled
+    ensures bound { result.count ≤ length buffer.new }
+    ensures bytes { Consumes (R.remaining from.old) (R.remaining from.new) (take result.count buffer.new) }
+    ensures whole { result.failed ≡ false → result.count < length buffer.new → IsAtEnd (R.remaining from.new) }
 {
-    let mut done = 0;
-    while done < buffer.len() {
-        match from.read(&mut buffer[done..]) {
-            Ok(0) => return done,
-            Ok(n) => done += n,
-            Err(_) => return done,
+    let mut count = 0;
+    while count < buffer.len() {
+        match from.read(&mut buffer[count..]) {
+            Ok(0) => {
+                return Filled {
+                    count,
+                    failed: false,
+                };
+            }
+            Ok(n) => count += n,
+            Err(_) => {
+                return Filled {
+                    count,
+                    failed: true,
+                };
+            }
         }
     }
-    done
-}
-
-// To standard error. What that does not take is lost.
-pub fn say(rt: &HostRuntime, words: &[u8]) {
-    let _ = rt.stderr().write_all(words);
-}
-
-// To standard output; whether all of it was written. Says so where it was not.
-pub fn put(rt: &HostRuntime, bytes: &[u8]) -> bool {
-    let written = rt.stdout().write_all(bytes).is_ok();
-    if !written {
-        say(rt, b"the output could not be written\n");
-    }
-    written
-}
-
-// A name, and why the system refused it.
-pub fn say_failure(rt: &HostRuntime, name: &[u8], error: io::Error) {
-    say(rt, name);
-    say(rt, b": ");
-    match format!(in rt.alloc(); "{error}") {
-        Ok(text) => say(rt, reason(text.as_str()).as_bytes()),
-        Err(_) => say(rt, b"out of memory"),
-    }
-    say(rt, b"\n");
-}
-
-// Without the number that std writes behind the system's words.
-fn reason(text: &str) -> &str {
-    match text.split_once(" (os error ") {
-        Some((words, _)) => words,
-        None => text,
+    Filled {
+        count,
+        failed: false,
     }
 }
 
-// Number 0 is the program's own name.
-pub fn has_argument(rt: &HostRuntime, number: usize) -> bool {
-    let mut start = [0u8; 1];
-    match rt.arg(number, &mut start) {
-        Ok(_) => true,
-        Err(FillError::TooLong) => true,
-        Err(FillError::NotPresent) => false,
+// Whether all of the bytes were written.
+pub fn put<W: Write>(to: &mut W, bytes: &[u8]) -> bool
+    ensures { result ≡ true → Appends (W.contents to.old) (W.contents to.new) bytes.now }
+{
+    to.write_all(bytes).is_ok()
+}
+
+#[cfg(test)]
+mod tests {
+    use super::*;
+    use std::io;
+    use std::io::ErrorKind;
+
+    // Gives `ab` and then fails.
+    #[derive(Drop)]
+    struct Torn {
+        given: bool,
+    }
+
+    impl Read for Torn {
+        fn read(&mut self, buf: &mut [u8]) -> io::Result<usize> {
+            if self.given || buf.len() < 2 {
+                return Err(io::Error::from(ErrorKind::Other));
+            }
+            self.given = true;
+            buf[0] = b'a';
+            buf[1] = b'b';
+            Ok(2)
+        }
+    }
+
+    #[test]
+    fn fills_up_to_the_end(rt: HostRuntime) {
+        let mut buffer = [0u8; 8];
+        let mut text: &[u8] = b"abc";
+        let filled = read_full(&mut text, &mut buffer);
+        assert_eq!(rt; filled.count, 3);
+        assert!(rt; !filled.failed);
+        assert!(rt; &buffer[..4] == b"abc\0".as_slice());
+    }
+
+    #[test]
+    fn keeps_what_came_before_a_failure(rt: HostRuntime) {
+        let mut buffer = [0u8; 8];
+        let filled = read_full(&mut Torn { given: false }, &mut buffer);
+        assert_eq!(rt; filled.count, 2);
+        assert!(rt; filled.failed);
+        assert!(rt; &buffer[..2] == b"ab".as_slice());
     }
 }

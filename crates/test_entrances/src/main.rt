@@ -72,6 +72,6 @@ fn run(to: Stdout, text: &[u8]) {
 
 fn main(rt: HostRuntime) {
     let mut text = [0u8; 65536];
-    let n = read_full(&mut rt.stdin(), &mut text);
+    let n = read_full(&mut rt.stdin(), &mut text).count;
     run(rt.stdout(), &text[..n]);
 }

@@ -63,7 +63,7 @@ fn answer_lines(to: Stdout, frame: Frame, stages: &[u8], text: &[u8]) {
 
 fn main(rt: HostRuntime) {
     let mut input = [0u8; 65536];
-    let n = read_full(&mut rt.stdin(), &mut input);
+    let n = read_full(&mut rt.stdin(), &mut input).count;
     let text = &input[..n];
     let plan_end = plan_length(text);
     let reading = read(part_of(text, 0, plan_end));

@@ -74,6 +74,6 @@ fn run_in_buffers(to: Stdout, cases: &[u8]) {
 
 fn main(rt: HostRuntime) {
     let mut cases = [0u8; 65536];
-    let n = read_full(&mut rt.stdin(), &mut cases);
+    let n = read_full(&mut rt.stdin(), &mut cases).count;
     run_in_buffers(rt.stdout(), &cases[..n]);
 }
