@@ -13,18 +13,23 @@ pub fn copy(from: &[u8], to: &mut [u8])
     to[..n].copy_from_slice(&from[..n]);
 }
 
+// Where a byte stands first; the length where it stands nowhere.
+fn index_of(bytes: &[u8], byte: u8) -> usize
+    ensures first { result ≡ index_of byte bytes.now }
+    ensures within { result ≤ length bytes.now }
+{
+    bytes.iter().position(|b| *b == byte).unwrap_or(bytes.len())
+}
+
 // Where a byte stands first from one offset on and below another, as far as there are bytes; where it stands nowhere there, the end of what was searched.
+#[tactic(auto, using(crate::proofs::Search::index_past, crate::proofs::Search::index_within))]
 pub fn find(bytes: &[u8], from: usize, to: usize, byte: u8) -> usize
     ensures first { result ≡ from + index_of byte (slice from to bytes.now) }
     ensures within { from ≤ to → result ≤ to }
 {
     let end = to.min(bytes.len());
-    let mut i = from;
-    while i < end {
-        if bytes[i] == byte {
-            return i;
-        }
-        i += 1;
+    if end <= from {
+        return from;
     }
-    i
+    from + index_of(&bytes[from..end], byte)
 }

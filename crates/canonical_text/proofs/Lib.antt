@@ -8,5 +8,3 @@ pub mod ReadBack
 pub mod NotLonger
 pub mod WriteAnswers
 pub mod CanonicalOutput
--- What serves the proofs of code.
-pub mod Puts

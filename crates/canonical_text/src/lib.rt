@@ -1,7 +1,7 @@
 // The canonical form of a plan, and what writing it answers, as values. What they mean is defined in specs/, and nothing runs here.
 #![tactic(auto)]
 
-// What the writer answers; its numbers are `write_number` of specs/Writing.
+// What the writer answers; its numbers are `write_number` of specs/Writing. One enum, as the published list has it.
 #[derive(Clone, Copy)]
 pub enum WriteAnswer {
     Written,
@@ -9,7 +9,7 @@ pub enum WriteAnswer {
     NoRoom,
 }
 
-// The answer, and the length of the text written; 0 where it is refused.
+// The answer, and the length of the text written; 0 where it is refused. No `Result`: `writing` (specs/Writing) gives both, and so does what a host is answered.
 #[derive(Clone, Copy)]
 pub struct Writing {
     pub answer: WriteAnswer,

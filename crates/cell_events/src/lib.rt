@@ -9,16 +9,18 @@ use admission::Table;
 use cell_layout::{CELL, JOB_COUNT, NO_CELL, STAGES};
 use cell_reads::{count_in, frame_in, jobs_in, list_in};
 use cell_writes::put_list;
-use events::{Answer, Event};
+use events::Event;
+use internals::LentJobs;
+use plan_bytes::LentPlan;
 use table_events::judge;
 use table_jobs::changed;
 use table_numbers::{answer_number, answer_place, end_number};
 
-// A number with one place.
+// A number with one place, and NO_CELL: numbers in place of enums, since they are what C is answered.
 pub fn pack(number: u32, place: u32) -> u64
     ensures { result ≡ packed number place 0 }
 {
-    number as u64 + 4294967296 * (place as u64)
+    u64::from(number) + 4294967296 * u64::from(place)
 }
 
 // An event at the cell. Only an admitted one reads the list as a whole, and writes the one that it leads to.
@@ -29,17 +31,24 @@ pub fn event_at(cell: &mut [u8], event: Event) -> u64
         return NO_CELL;
     }
     let frame = frame_in(cell);
+    let numbers = jobs_in(cell);
     let count = count_in(cell);
-    let jobs = jobs_in(cell);
-    let judgement = judge(frame, &cell[STAGES..JOB_COUNT], count, &jobs, event);
-    let answer = judgement.answer;
-    let Answer::Admitted = answer else {
+    let plan = LentPlan {
+        frame: &frame,
+        stages: &cell[STAGES..JOB_COUNT],
+    };
+    let jobs = LentJobs {
+        count,
+        numbers: &numbers,
+    };
+    let judged = judge(plan, jobs, event);
+    if let Err(answer) = judged {
         let number = answer_number(answer);
         let place = answer_place(answer);
         return pack(number, place);
-    };
+    }
     let list = list_in(cell);
-    let after = changed(list, judgement);
+    let after = changed(list, judged);
     put_list(after.list, cell);
     0
 }
@@ -54,7 +63,11 @@ pub fn drain_at(cell: &mut [u8], budget: u32) -> u64
     let list = list_in(cell);
     let table = Table { list };
     let frame = frame_in(cell);
-    let drained = table.drain(frame, &cell[STAGES..JOB_COUNT], budget);
+    let plan = LentPlan {
+        frame: &frame,
+        stages: &cell[STAGES..JOB_COUNT],
+    };
+    let drained = table.drain(plan, budget);
     let end = drained.end;
     let left = drained.table;
     let number = end_number(end);

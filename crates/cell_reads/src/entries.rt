@@ -3,8 +3,6 @@ ghost use Rattle.std.specs.Prelude.{◌≡◌, ◌+◌, ◌≤◌, length};
 ghost use Rattle.plan_bytes.specs.Over.{bytes_from};
 ghost use Rattle.cell_layout.specs.Layout.{value_of, bound_size, job_in, job_size};
 
-use arithmetic::{u8_to_u16, u8_to_u32};
-use byte_slices::copy;
 use model::Job;
 
 // A bound has two bytes.
@@ -12,7 +10,7 @@ pub(crate) fn bound_at(bounds: &[u8], at: usize) -> u16
     requires { at + bound_size ≤ length bounds.now }
     ensures { result ≡ value_of (bytes_from at bound_size bounds.now) }
 {
-    u8_to_u16(bounds[at]) + 256 * u8_to_u16(bounds[at + 1])
+    u16::from_le_bytes([bounds[at], bounds[at + 1]])
 }
 
 // A number of a job has four.
@@ -20,8 +18,7 @@ pub(crate) fn number_at(jobs: &[u8], at: usize) -> u32
     requires { at + 4 ≤ length jobs.now }
     ensures { result ≡ value_of (bytes_from at 4 jobs.now) }
 {
-    let high = u8_to_u32(jobs[at + 2]) + 256 * u8_to_u32(jobs[at + 3]);
-    u8_to_u32(jobs[at]) + 256 * (u8_to_u32(jobs[at + 1]) + 256 * high)
+    u32::from_le_bytes([jobs[at], jobs[at + 1], jobs[at + 2], jobs[at + 3]])
 }
 
 pub(crate) fn job_from(jobs: &[u8], at: usize) -> Job
@@ -35,20 +32,9 @@ pub(crate) fn job_from(jobs: &[u8], at: usize) -> Job
     }
 }
 
-pub(crate) fn bytes_16(part: &[u8]) -> [u8; 16]
-    requires { length part.now ≡ 16 }
+pub(crate) fn bytes<const N: usize>(part: &[u8]) -> [u8; N]
+    requires { length part.now ≡ N }
     ensures { result ≡ part.now }
 {
-    let mut some = [0u8; 16];
-    copy(part, &mut some);
-    some
-}
-
-pub(crate) fn bytes_32(part: &[u8]) -> [u8; 32]
-    requires { length part.now ≡ 32 }
-    ensures { result ≡ part.now }
-{
-    let mut some = [0u8; 32];
-    copy(part, &mut some);
-    some
+    std::array::from_fn(|i| part[i])
 }

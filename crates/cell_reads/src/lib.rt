@@ -9,8 +9,7 @@ ghost use Rattle.plan_bytes.specs.Over.{entries_in};
 ghost use Rattle.internals.specs.JobNumbers.{jobs_laid};
 ghost use Rattle.cell_layout.specs.Layout.{value_of, bound_size, size_of, bounds_part, frame_in, list_in};
 
-use crate::entries::{bound_at, bytes_16, bytes_32, job_from, number_at};
-use arithmetic::u8_to_usize;
+use crate::entries::{bound_at, bytes, job_from, number_at};
 use cell_layout::{
     BOUNDS, CAPACITIES, CELL, JOB_COUNT, JOBS, LENGTHS, RANKS, RESOURCES, ROWS, STAGES, TYPES,
 };
@@ -26,10 +25,8 @@ fn bounds_in(part: &[u8]) -> [u16; 32]
     ensures { result ≡ entries_in value_of bound_size max_rows part.now }
 {
     let mut bounds = [0u16; 32];
-    let mut i = 0;
-    while i < 32 {
+    for i in 0..32 {
         bounds[i] = bound_at(part, 2 * i);
-        i += 1;
     }
     bounds
 }
@@ -45,13 +42,14 @@ pub fn frame_in(cell: &[u8]) -> Frame
         resources: cell[RESOURCES],
         types: cell[TYPES],
         rows: cell[ROWS],
-        capacity: bytes_32(&cell[CAPACITIES..RANKS]),
-        rank: bytes_32(&cell[RANKS..BOUNDS]),
+        capacity: bytes(&cell[CAPACITIES..RANKS]),
+        rank: bytes(&cell[RANKS..BOUNDS]),
         bound: bounds_in(&cell[BOUNDS..LENGTHS]),
-        lengths: bytes_16(&cell[LENGTHS..STAGES]),
+        lengths: bytes(&cell[LENGTHS..STAGES]),
     }
 }
 
+// What `Table::empty` holds; to take it from there, these reads would stand on all that an event does.
 fn no_jobs() -> JobList
     ensures { result ≡ empty_list }
 {
@@ -73,7 +71,7 @@ pub fn count_in(cell: &[u8]) -> usize
     if cell.len() < CELL {
         return 0;
     }
-    u8_to_usize(cell[JOB_COUNT])
+    usize::from(cell[JOB_COUNT])
 }
 
 // The jobs of the cell by their numbers, three a slot, for an event that only asks them.
@@ -84,10 +82,8 @@ pub fn jobs_in(cell: &[u8]) -> [u32; 192]
     if cell.len() < CELL {
         return jobs;
     }
-    let mut i = 0;
-    while i < 192 {
+    for i in 0..192 {
         jobs[i] = number_at(&cell[JOBS..CELL], 4 * i);
-        i += 1;
     }
     jobs
 }
@@ -101,10 +97,8 @@ pub fn list_in(cell: &[u8]) -> JobList
         return list;
     }
     list.count = count_in(cell);
-    let mut i = 0;
-    while i < 64 {
+    for i in 0..64 {
         list.jobs[i] = job_from(&cell[JOBS..CELL], 12 * i);
-        i += 1;
     }
     list
 }

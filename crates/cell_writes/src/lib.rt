@@ -2,7 +2,7 @@
 #![tactic(auto)]
 
 ghost use Rattle.std.specs.Prelude.{◌≡◌, ◌+◌, ◌≤◌, ◌%◌, [], length, take};
-ghost use Rattle.plan_bytes.specs.Over.{plan_read, plan_over};
+ghost use Rattle.plan_bytes.specs.Over.{plan_read, plan_of};
 ghost use Rattle.moves_text.specs.Buffer.{overlaid_at};
 ghost use Rattle.cell_layout.specs.Layout.{bytes_of, bytes_of_each, bound_size, job_bytes, job_size, offset_of, bounds_part, stages_part, cell_size};
 ghost use Rattle.cell_layout.specs.Layout.{with_parts, plan_parts, with_plan, with_list};
@@ -10,26 +10,17 @@ ghost use Rattle.cell_layout.specs.Layout.{with_parts, plan_parts, with_plan, wi
 use cell_layout::{BOUNDS, CAPACITIES, CELL, JOB_COUNT, JOBS, LENGTHS, RANKS, RESOURCES, STAGES};
 use events::JobList;
 use model::Job;
-use plan_bytes::Frame;
+use plan_bytes::{Frame, LentPlan};
 use write_lines::put_text;
 
 // The bytes of all stages.
 const ALL_STAGES: usize = JOB_COUNT - STAGES;
 
-fn low_byte(n: u32) -> u8
-    ensures { result ≡ n % 256 }
-{
-    (n % 256) as u8
-}
-
 fn lay_number(n: u32, cell: &mut [u8], at: usize)
     requires { at + 4 ≤ length cell.old }
     ensures { cell.new ≡ overlaid_at at (bytes_of 4 n) cell.old }
 {
-    cell[at] = low_byte(n);
-    cell[at + 1] = low_byte(n / 256);
-    cell[at + 2] = low_byte(n / 256 / 256);
-    cell[at + 3] = low_byte(n / 256 / 256 / 256);
+    cell[at..at + 4].copy_from_slice(&n.to_le_bytes());
 }
 
 fn lay_job(j: Job, cell: &mut [u8], at: usize)
@@ -45,25 +36,22 @@ fn lay_bound(bound: u16, cell: &mut [u8], at: usize)
     requires { at + bound_size ≤ length cell.old }
     ensures { cell.new ≡ overlaid_at at (bytes_of bound_size bound) cell.old }
 {
-    cell[at] = low_byte(bound as u32);
-    cell[at + 1] = low_byte((bound / 256) as u32);
+    cell[at..at + 2].copy_from_slice(&bound.to_le_bytes());
 }
 
 fn lay_bounds(bound: [u16; 32], cell: &mut [u8])
     requires { cell_size ≤ length cell.old }
     ensures { cell.new ≡ overlaid_at (offset_of bounds_part) (bytes_of_each (bytes_of bound_size) bound) cell.old }
 {
-    let mut i = 0;
-    while i < 32 {
-        lay_bound(bound[i], cell, BOUNDS + 2 * i);
-        i += 1;
+    for (i, b) in bound.iter().enumerate() {
+        lay_bound(*b, cell, BOUNDS + 2 * i);
     }
 }
 
 // All parts of a plan but the last, its stages.
-fn lay_frame(frame: Frame, cell: &mut [u8])
+fn lay_frame(frame: &Frame, cell: &mut [u8])
     requires { cell_size ≤ length cell.old }
-    ensures { cell.new ≡ with_parts (take stages_part (plan_parts (plan_read frame []))) cell.old }
+    ensures { cell.new ≡ with_parts (take stages_part (plan_parts (plan_read frame.now []))) cell.old }
 {
     put_text(&[frame.resources, frame.types, frame.rows], cell, RESOURCES);
     put_text(&frame.capacity, cell, CAPACITIES);
@@ -75,17 +63,17 @@ fn lay_frame(frame: Frame, cell: &mut [u8])
 
 // The plan in place of the one that was there. A slice that has not the bytes of all stages is that of none, and then those in the cell stay. Bytes
 // too few for a cell stay as they are.
-pub fn put_plan(frame: Frame, stages: &[u8], cell: &mut [u8])
-    ensures { cell.new ≡ with_plan (plan_over frame stages.now) cell.old }
+pub fn put_plan(plan: LentPlan<'_>, cell: &mut [u8])
+    ensures { cell.new ≡ with_plan (plan_of plan.entry) cell.old }
 {
     if cell.len() < CELL {
         return;
     }
-    lay_frame(frame, cell);
-    if stages.len() != ALL_STAGES {
+    lay_frame(plan.frame, cell);
+    if plan.stages.len() != ALL_STAGES {
         return;
     }
-    put_text(stages, cell, STAGES);
+    put_text(plan.stages, cell, STAGES);
 }
 
 // The job list in place of the one that was there. The jobs are taken from it where it lies: handed on, the whole list would be copied.
@@ -96,9 +84,7 @@ pub fn put_list(l: JobList, cell: &mut [u8])
         return;
     }
     cell[JOB_COUNT] = (l.count % 256) as u8;
-    let mut i = 0;
-    while i < 64 {
+    for i in 0..64 {
         lay_job(l.jobs[i], cell, JOBS + 12 * i);
-        i += 1;
     }
 }

@@ -7,7 +7,6 @@ ghost use Rattle.desk_text.specs.HeldLine.{no_line, held_with, held_means};
 ghost use Rattle.desk_text.specs.Desk.{start_desk, desk_with};
 
 use admission::Table;
-use arithmetic::at_most;
 use desk_text::{Desk, HeldLine};
 use events::JobList;
 use moves_input::event_of;
@@ -30,10 +29,10 @@ pub fn hold(held: HeldLine, more: &[u8]) -> HeldLine
 {
     let mut bytes = held.bytes;
     put_text(more, &mut bytes, held.count);
-    let count = at_most(held.count, 65) + at_most(more.len(), 65);
+    let count = held.count.min(65) + more.len().min(65);
     HeldLine {
         bytes,
-        count: at_most(count, 65),
+        count: count.min(65),
     }
 }
 
@@ -48,19 +47,18 @@ pub fn meaning(held: HeldLine) -> EventLine
         return event_of(&bytes[..count], true);
     }
     if is_skipped(&bytes) {
-        return EventLine::Skipped;
+        EventLine::Skipped
+    } else {
+        EventLine::Malformed
     }
-    EventLine::Malformed
 }
 
 // The desk before the first line.
 pub fn start_desk() -> Desk
     ensures { result ≡ start_desk }
 {
-    let table = Table::empty();
-    let list = table.list;
     Desk {
-        list,
+        list: Table::empty().list,
         ordinal: 1,
         held: no_line(),
     }
@@ -70,14 +68,9 @@ pub fn start_desk() -> Desk
 pub fn next_desk(list: JobList, ordinal: u64) -> Desk
     ensures { result ≡ desk_with list ordinal }
 {
-    let next = if ordinal < 18446744073709551615 {
-        ordinal + 1
-    } else {
-        ordinal
-    };
     Desk {
         list,
-        ordinal: next,
+        ordinal: ordinal.saturating_add(1),
         held: no_line(),
     }
 }

@@ -1,5 +1,5 @@
 -- One line of a read: it is held, and if its LF is there it is answered, at the table that the lines before left, with its ordinal.
-use Rattle.std.specs.Prelude.{ℕ, ◌+◌, cond, List, [], ◌∷◌, ◌++◌, ltb, eqb}
+use Rattle.std.specs.Prelude.{ℕ, ◌+◌, cond, List, [], ◌∷◌, ◌++◌, ltb, eqb, Some}
 use Rattle.std.proofs.Math.Option.{Option, none, some}
 use Rattle.model.specs.declared.Plan.{Plan}
 use Rattle.events.specs.JobList.{empty_list}
@@ -37,6 +37,13 @@ desk_after_line p d l = desk_with (list_after_line p d.list l) d.ordinal
 abbrev pub line_out : Plan → Desk → Option Event → List ℕ
 line_out p d l = let r = reply_to p d.list l in event_line d.ordinal r.number r.place r.active
 
+-- after an event, and what is put of it
+abbrev pub desk_after_event : Plan → Desk → Event → Desk
+desk_after_event p d e = desk_after_line p d (some e)
+
+abbrev pub event_out : Plan → Desk → Event → List ℕ
+event_out p d e = line_out p d (some e)
+
 -- of a malformed one, whatever the plan
 abbrev pub malformed_out : Desk → List ℕ
 malformed_out d = event_line d.ordinal malformed 0 d.list.count
@@ -45,12 +52,12 @@ malformed_out d = event_line d.ordinal malformed 0 d.list.count
 abbrev pub desk_after_meaning : Plan → Desk → EventLine → Desk
 desk_after_meaning p d Skipped = record { list = d.list; ordinal = d.ordinal; held = no_line }
 desk_after_meaning p d Malformed = desk_after_line p d none
-desk_after_meaning p d (Given e) = desk_after_line p d (some e)
+desk_after_meaning p d (Given e) = desk_after_event p d e
 
 abbrev pub meaning_out : Plan → Desk → EventLine → List ℕ
 meaning_out p d Skipped = []
 meaning_out p d Malformed = line_out p d none
-meaning_out p d (Given e) = line_out p d (some e)
+meaning_out p d (Given e) = event_out p d e
 
 abbrev pub meaning_told : Plan → Desk → HeldLine → EventLine → List ℕ
 meaning_told p d h Skipped = []
@@ -105,4 +112,4 @@ unfoldable pub out_at_end : Desk → List ℕ
 out_at_end d = cond (eqb d.held.count 0) [] (malformed_out d)
 
 unfoldable pub told_at_end : Desk → List ℕ
-told_at_end d = cond (eqb d.held.count 0) [] (malformed_message d.ordinal NoLineEnd)
+told_at_end d = cond (eqb d.held.count 0) [] (malformed_message d.ordinal (Some NoLineEnd))

@@ -1,6 +1,6 @@
 -- The line that is held until its LF comes, and what it then means. Its first 64 bytes say it: an event line has 13 at most, and a longer line
 -- is skipped if it begins with `#` and malformed if not (`held_means_lem`).
-use Rattle.std.specs.Prelude.{ℕ, ◌+◌, min, true, cond, List, leb, length, take, replicate}
+use Rattle.std.specs.Prelude.{ℕ, ◌+◌, min, true, cond, List, leb, length, take, replicate, Option, Some}
 use Rattle.plan_text.specs.Lines.{is_skipped}
 use Rattle.moves_text.specs.Buffer.{overlaid_at}
 use Rattle.moves_text.specs.EventLines.{event_in}
@@ -28,5 +28,5 @@ held_means h =
     cond (leb h.count room) (event_in (record { bytes = take h.count h.bytes; ended = true })) (cond (is_skipped h.bytes) Skipped Malformed)
 
 -- the slip in it, where it is malformed
-unfoldable pub held_slip : HeldLine → Slip
-held_slip h = cond (leb h.count room) (event_slip (take h.count h.bytes)) LongLine
+unfoldable pub held_slip : HeldLine → Option Slip
+held_slip h = cond (leb h.count room) (event_slip (take h.count h.bytes)) (Some LongLine)

@@ -4,7 +4,7 @@
 use events::JobList;
 
 // The line whose LF has not come yet: its first bytes, as many as there is room for, and how many bytes it has, 65 where these are more
-// than there is room for. An event line has 13 at most.
+// than there is room for. An event line has 13 at most. Fixed memory and no heap: so no Vec, and the laws of the desk are of these two fields.
 #[derive(Clone, Copy)]
 pub struct HeldLine {
     pub bytes: [u8; 64],

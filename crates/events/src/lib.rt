@@ -3,7 +3,8 @@
 
 use model::Job;
 
-// The active jobs in the order they were loaded; zeros beyond `count`. A table is this list with its methods.
+// The active jobs in the order they were loaded; zeros beyond `count`. A table is this list with its methods. An array with a count, as nothing is allocated here, and the
+// theorems of the table speak of both.
 #[derive(Clone, Copy)]
 pub struct JobList {
     pub count: usize,
@@ -19,7 +20,8 @@ pub enum Event {
     Pull(u32),
 }
 
-// What an event is answered; its numbers are `answer_numbers` of specs/Events.
+// What an event is answered; its numbers are `answer_numbers` of specs/Events. One enum with `Admitted` in it, since `Judged` (specs/Events) and the published list speak of it so;
+// a function that refuses hands it on as the error of a `Result`.
 #[derive(Clone, Copy)]
 pub enum Answer {
     Admitted,
@@ -34,14 +36,14 @@ pub enum Answer {
     RowBroken(u32),
 }
 
-// The answer to an event with the list afterwards.
+// The answer to an event with the list afterwards. No `Result`: a refusal hands the list back as well (`Judged`).
 #[derive(Clone, Copy)]
 pub struct ListOutcome {
     pub answer: Answer,
     pub list: JobList,
 }
 
-// How a drain ends; its number is `end_number` of specs/Drain.
+// How a drain ends; its number is `end_number` of specs/Drain, which speaks of each end alike.
 #[derive(Clone, Copy)]
 pub enum End {
     Emptied,
@@ -51,7 +53,7 @@ pub enum End {
     NoMove,
 }
 
-// The end of a drain with the moves made and the list afterwards.
+// The end of a drain with the moves made and the list afterwards, which come with every end.
 #[derive(Clone, Copy)]
 pub struct ListDrained {
     pub end: End,

@@ -1,6 +1,7 @@
 -- A move or a pull of the job that a number names: the refusals up to question 14, and what is answered once the number is active. A
 -- number names one job of an agreeing list, so the job found is the one that the model splits the list at.
 use Prim.Native.Nat.{ℕ, ◌+◌}
+use Rattle.std.specs.Prelude.{Option, Some, None, Result, Ok, Err}
 use mathlib.Core.Bool.{Bool, true, false, cond, false≢true}
 use mathlib.Core.List.{List, [], ◌∷◌, ◌++◌}
 use mathlib.Core.Path.{◌≡◌, refl, sym, ap, subst, subst⁻¹, ◌∙◌}
@@ -17,18 +18,21 @@ use Rattle.model.specs.declared.Job.{Job}
 use Rattle.model.proofs.Decide.{holds}
 use Rattle.model.proofs.Jobs.{decides_active, FoundJob}
 use Rattle.events.specs.JobList.{jobs_of, Agrees}
-use Rattle.events.specs.Events.{is_admitted, jobs_after, name_questions, kept_questions, own_questions, kept_answer, agreement, answer, list_outcome}
+use Rattle.events.specs.Events.{is_admitted, jobs_after, name_questions, kept_questions, own_questions, kept_answer, agreement, answer}
 use Rattle.events.specs.declared.JobList.{JobList}
 use Rattle.events.specs.declared.Event.{Event}
 use Rattle.events.specs.declared.Event.TheVariants.{Advance, Unload, Pull}
 use Rattle.events.specs.declared.Answer.{Answer}
 use Rattle.events.specs.declared.Answer.TheVariants.{Admitted, BadNumber, WrongActivity, WrongStage}
 use Rattle.events.proofs.Answers.{staged_job, names, unload_admitted, pull_admitted}
-use Rattle.internals.specs.Internals.{sums_of, ceilings_of, kept_after, position_of, stage_met, active_answer}
+use Rattle.internals.specs.Internals.{sums_of, ceilings_of, unless_refused, kept_after, found_in, stage_met, active_answer}
+use Rattle.internals.specs.JobNumbers.{Judges}
+use Rattle.internals.specs.declared.Found.{Found}
 use Rattle.internals.specs.declared.StageAsked.{StageAsked}
 use Rattle.internals.specs.declared.StageAsked.TheVariants.{Next, Last, Any}
-use Rattle.internals.proofs.QuestionParts.{agreement_holds, agreement_met, met_agreement, first_met, Refusing, entry_refused, entry_met}
-use Rattle.internals.proofs.QuestionParts.{name_holds, name_met, by_position}
+use Rattle.internals.proofs.Positions.{standing}
+use Rattle.internals.proofs.QuestionParts.{agreement_holds, agreement_met, met_agreement, first_met, Refusing, handed_on, refused_as, judged_error, entry_refused}
+use Rattle.internals.proofs.QuestionParts.{name_holds, name_met}
 use Rattle.internals.proofs.SumsAfter.{moved_exchanged, kept_exchanged}
 
 -- questions 11 to 14 of a move or a pull are met
@@ -43,7 +47,7 @@ event_asking Next n = Advance n
 event_asking Last n = Unload n
 event_asking Any n = Pull n
 
--- the answer to questions 11 to 14 and 17, as the code forms it
+-- questions 13, 14 and 17, as the code asks them
 module _ (p : Plan) (t : JobList) (n : ℕ) where
   abbrev met_by : StageAsked → Bool
   met_by w = stage_met p w (job_of n (jobs_of t))
@@ -98,23 +102,36 @@ module _ (p : Plan) (t : JobList) (n : ℕ) (wanted : StageAsked) where
       go true false m e = absurd (false≢true e)
       go false b m e = absurd (false≢true e)
 
-  module _ (first a : Answer) (opens : first ≡ agreement p t) (says : a ≡ active_answer first t.count (position_of n (jobs_of t)) n met) where
-    asked : a ≡ cond (is_admitted first) (answer_of Admitted own) first
-    unfolding active_answer
-    asked =
-        says
-        ∙ by_position p t n first opens (further_by p t n wanted)
-        ∙ ap (λ (further : Answer). cond (is_admitted first) further first) (own_further p t n wanted)
+  -- where they are met, what was found is handed on
+  abbrev asked_of : Option Found → Result Found Answer
+  asked_of found = active_answer p.lengths found n wanted
 
-    pub active_refused : is_admitted a ≡ false → record { answer = a; list = t } ≡ list_outcome p t (event_asking wanted n)
-    active_refused h = entry_refused p t (event_asking wanted n) own rest (whole p t n wanted) (refuses p t n wanted) first a opens asked h
+  asked : asked_of (found_in n (jobs_of t)) ≡ unless_refused (answer_of Admitted own) (standing n (jobs_of t))
+  unfolding active_answer
+  asked = go (is_active n (jobs_of t)) ∙ ap (λ (a : Answer). unless_refused a (standing n (jobs_of t))) (own_further p t n wanted)
+    where
+      none : (b : Bool) → ◌≡◌ {A = Result Found Answer} (Err (cond b WrongActivity BadNumber)) (unless_refused (cond b WrongActivity BadNumber) (standing n (jobs_of t)))
+      none true = refl
+      none false = refl
 
-    pub active_stands : is_admitted a ≡ true → StandsActive p t n × (met ≡ true)
+      go : (b : Bool) → asked_of (cond b (Some (standing n (jobs_of t))) None) ≡ unless_refused (further_by p t n wanted b) (standing n (jobs_of t))
+      go true = refl
+      go false = none (in_range n max_number)
+
+  module _ (agreeing : is_admitted (agreement p t) ≡ true) where
+    pub active_refused : {r : Answer} → asked_of (found_in n (jobs_of t)) ≡ Err r → Judges p t (event_asking wanted n) (Err r)
+    active_refused h =
+        let refused = refused_as _ _ (sym asked ∙ h) in
+        let other = ap is_admitted (sym refused.1) ∙ refused.0 in
+        judged_error p t (event_asking wanted n) _ other
+        (entry_refused p t (event_asking wanted n) own rest (whole p t n wanted) (refuses p t n wanted) (agreement p t) _ refl (sym refused.1 ∙ rw agreeing refl) other)
+
+    pub active_stands : {f : Found} → asked_of (found_in n (jobs_of t)) ≡ Ok f → StandsActive p t n × (met ≡ true) × (standing n (jobs_of t) ≡ f)
     active_stands h =
-        let both = entry_met p t (event_asking wanted n) own rest (whole p t n wanted) (refuses p t n wanted) first a opens asked h in
-        let plan = agreement_holds p t both.0 in
-        let named = own_met both.1 in
-        (record { sound = plan.0; agrees = plan.1; met = named.0 }, named.1)
+        let both = handed_on _ _ (sym asked ∙ h) in
+        let plan = agreement_holds p t agreeing in
+        let named = own_met both.0 in
+        (record { sound = plan.0; agrees = plan.1; met = named.0 }, named.1, both.1)
 
 module _ {p : Plan} {t : JobList} {n : ℕ} (s : StandsActive p t n) where
   pub active : is_active n (jobs_of t) ≡ true

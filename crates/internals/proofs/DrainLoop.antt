@@ -2,6 +2,7 @@
 -- start.
 use Prim.Native.Nat.{ℕ, zero, suc, ◌+◌, ◌-◌, ◌≤◌, ◌<◌}
 use native.Mathlib.Omega.{arith}
+use Rattle.std.specs.Prelude.{Some, None}
 use mathlib.Core.Bool.{Bool, true, false, cond, false≢true}
 use mathlib.Core.List.{List, [], ◌∷◌}
 use mathlib.Core.Logic.{◌≢◌}
@@ -26,7 +27,7 @@ use Rattle.events.specs.declared.ListDrained.{ListDrained}
 use Rattle.internals.proofs.ListChanges.{count_is}
 use Rattle.events.proofs.Answers.{list_admitted, agrees_after}
 use Rattle.internals.proofs.QuestionParts.{is_admitted_lem}
-use Rattle.internals.proofs.EarliestMove.{earliest_none, earliest_some, movable_there}
+use Rattle.internals.proofs.EarliestMove.{FirstMoves, first_moves, earliest_none}
 
 -- a drain with so many moves made before it
 abbrev pub after_moves : ℕ → ListDrained → ListDrained
@@ -67,31 +68,35 @@ module _ (p : Plan) (t : JobList) (plan : Sound p) (agreeing : Agrees p t) where
     drain_spent zero h = rw (some_list (jobs_of t) (omega (arith, counted))) refl
     drain_spent (suc budget) h = absurd (omega arith)
 
-    pub drain_stuck : (budget : ℕ) → 0 < budget → t.count ≤ earliest_position p t → drain_from p budget t ≡ stopped NoMove t
+    pub drain_stuck : (budget : ℕ) → 0 < budget → earliest_position p t ≡ None → drain_from p budget t ≡ stopped NoMove t
     unfolding drain_from
     drain_stuck zero h stuck = absurd (omega arith)
     drain_stuck (suc budget) h stuck =
-        rw (some_list (jobs_of t) (omega (arith, counted)), earliest_none p t (jobs_of t) (omega (arith, counted))) refl
+        rw (some_list (jobs_of t) (omega (arith, counted)), earliest_none p t (jobs_of t) 0 stuck) refl
 
     -- the job that moves
-    module _ (position : ℕ) (found : position ≡ earliest_position p t) (low : position < t.count) where
+    module _ (position : ℕ) (found : earliest_position p t ≡ Some position) where
       abbrev move : Event
       move = move_of p (get_or t.jobs position no_job)
 
-      moving : move_of p (get_or (jobs_of t) (earliest_position p t) no_job) ≡ move
-      moving =
-          ap (move_of p) (ap (λ i. get_or (jobs_of t) i no_job) (sym found) ∙ get_or-take t.count t.jobs position no_job low)
+      first : FirstMoves p t (jobs_of t) position
+      first = first_moves p t position found
+
+      pub position_below : position < t.count
+      position_below = omega (arith, first.below, counted)
+
+      moving : move_of p (get_or (jobs_of t) position no_job) ≡ move
+      moving = ap (move_of p) (get_or-take t.count t.jobs position no_job position_below)
 
       pub move_admitted : is_admitted (answer p t move) ≡ true
-      move_admitted =
-          ap (λ (e : Event). is_admitted (answer p t e)) (sym moving) ∙ movable_there p t (jobs_of t) (omega (arith, found, counted))
+      move_admitted = ap (λ (e : Event). is_admitted (answer p t e)) (sym moving) ∙ first.moves
 
       pub drain_goes : (budget : ℕ) → 0 < budget → drain_from p budget t ≡ one_more (drain_from p (budget - 1) (list_after p t move))
       unfolding drain_from
       drain_goes zero h = absurd (omega arith)
       drain_goes (suc budget) h =
           let less : suc budget - 1 ≡ budget = omega arith in
-          rw (some_list (jobs_of t) (omega (arith, counted)), earliest_some p t (jobs_of t) (omega (arith, found, counted)), moving, less) refl
+          rw (some_list (jobs_of t) (omega (arith, counted)), first.earliest, moving, less) refl
 
       pub next_list : list_of (jobs_after p (jobs_of t) move) ≡ list_after p t move
       next_list = sym (list_admitted p t move (is_admitted_lem _ move_admitted))

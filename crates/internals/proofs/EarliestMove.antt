@@ -1,9 +1,10 @@
 -- The move of the job at a position, as the drain tries it: in an agreeing table each number names its own job, so a job at its
 -- last stage can go and another is judged by the sums; and the earliest that can go is the one that the definition finds.
 use Prim.Native.Nat.{ℕ, zero, suc, ◌+◌, ◌≤◌, ◌<◌}
-use native.Mathlib.Numerals.{add-one}
 use native.Mathlib.Omega.{arith}
-use mathlib.Core.Bool.{Bool, true, false, cond}
+use Rattle.std.specs.Prelude.{Option, Some, None, is_some, unwrap_or}
+use Rattle.std.specs.List.{position_from}
+use mathlib.Core.Bool.{Bool, true, false, cond, false≢true}
 use mathlib.Core.List.{List, [], ◌∷◌}
 use mathlib.Core.Logic.{◌≢◌}
 use mathlib.Core.Option.{none, some}
@@ -28,7 +29,7 @@ use Rattle.events.specs.declared.JobList.{JobList}
 use Rattle.events.specs.declared.Event.{Event}
 use Rattle.events.specs.declared.Event.TheVariants.{Advance, Unload}
 use Rattle.events.specs.declared.Answer.TheVariants.{Admitted}
-use Rattle.internals.specs.Internals.{sums_of, ceilings_of, kept_after, position_of, with_replaced, without_job, first_movable}
+use Rattle.internals.specs.Internals.{sums_of, ceilings_of, kept_after, position_of, with_replaced, without_job, movable, earliest_position}
 use Rattle.internals.proofs.Positions.{position_active, position_job}
 use Rattle.internals.proofs.ListChanges.{count_is, advanced_list, removed_list}
 use Rattle.internals.proofs.ActiveQuestions.{StandsActive, job_staged, advance_goes, unload_goes}
@@ -119,12 +120,15 @@ module _ (p : Plan) (t : JobList) (sound : Sound p) (agrees : Agrees p t) (i : �
         ∙ ap (λ (e : Event). list_of (jobs_after p (jobs_of t) e)) (sym advance)
 
   -- the search goes on from this position or stops at it
-  pub movable_from : first_movable p t (drop i (jobs_of t)) ≡ cond (is_admitted (answer p t (move_of p job))) 0 (suc (first_movable p t (drop (i + 1) (jobs_of t))))
+  pub movable_from : position_from (movable p t) i (drop i (jobs_of t)) ≡ cond (movable p t job) (Some i) (position_from (movable p t) (i + 1) (drop (i + 1) (jobs_of t)))
   movable_from =
-      rw (add-one, drop-cons (jobs_of t) i no_job (omega (arith, count_is p t agrees)))
-      (ap (λ (j : Job). cond (is_admitted (answer p t (move_of p j))) 0 (suc (first_movable p t (drop (suc i) (jobs_of t))))) there)
+      let js = jobs_of t in
+      let next : suc i ≡ i + 1 = omega arith in
+      rw (drop-cons js i no_job (omega (arith, count_is p t agrees)))
+      (ap (λ (j : Job). cond (movable p t j) (Some i) (position_from (movable p t) (i + 1) (drop (suc i) js))) there
+      ∙ ap (λ m. cond (movable p t job) (Some i) (position_from (movable p t) (i + 1) (drop m js))) next)
 
-pub movable_none : (p : Plan) (t : JobList) (i : ℕ) → length (jobs_of t) ≤ i → first_movable p t (drop i (jobs_of t)) ≡ 0
+pub movable_none : (p : Plan) (t : JobList) (i : ℕ) → length (jobs_of t) ≤ i → position_from (movable p t) i (drop i (jobs_of t)) ≡ None
 movable_none p t i h = rw (drop_of_length-le (jobs_of t) {i = i} h) refl
 
 -- the earliest admitted move is that of the first job that can go
@@ -132,32 +136,35 @@ module _ (p : Plan) (t : JobList) where
   abbrev move_at : List Job → ℕ → Event
   move_at js i = move_of p (get_or js i no_job)
 
-  pub earliest_none : (js : List Job) → length js ≤ first_movable p t js → earliest p t js ≡ none
-  earliest_none [] h = refl
-  earliest_none (j ∷ js) h = go (is_admitted (answer p t (move_of p j))) (earliest_none js) h
-    where
-      go : (b : Bool) → (length js ≤ first_movable p t js → earliest p t js ≡ none)
-          → suc (length js) ≤ cond b 0 (suc (first_movable p t js)) → cond b (some (move_of p j)) (earliest p t js) ≡ none
-      go true later k = absurd (omega arith)
-      go false later k = later (omega arith)
+  -- the job at this position among these moves, and none before it
+  pub record FirstMoves (js : List Job) (i : ℕ) : Type 0 where
+    pub below : i < length js
+    pub moves : is_admitted (answer p t (move_at js i)) ≡ true
+    pub earliest : earliest p t js ≡ some (move_at js i)
 
-  pub earliest_some : (js : List Job) → first_movable p t js < length js → earliest p t js ≡ some (move_of p (get_or js (first_movable p t js) no_job))
-  earliest_some [] h = absurd (omega arith)
-  earliest_some (j ∷ js) h = go (is_admitted (answer p t (move_of p j))) (earliest_some js) h
+  pub earliest_none : (js : List Job) (i : ℕ) → position_from (movable p t) i js ≡ None → earliest p t js ≡ none
+  earliest_none [] i h = refl
+  earliest_none (j ∷ js) i h = go (movable p t j) (earliest_none js (i + 1)) h
     where
-      go : (b : Bool) → (first_movable p t js < length js → earliest p t js ≡ some (move_at js (first_movable p t js)))
-          → let i = cond b 0 (suc (first_movable p t js)) in
-          i < suc (length js) → cond b (some (move_of p j)) (earliest p t js) ≡ some (move_at (j ∷ js) i)
-      go true later k = refl
-      go false later k = later (omega arith)
+      go : (b : Bool) → (position_from (movable p t) (i + 1) js ≡ None → earliest p t js ≡ none)
+          → cond b (Some i) (position_from (movable p t) (i + 1) js) ≡ None → cond b (some (move_of p j)) (earliest p t js) ≡ none
+      go true later k = absurd (false≢true (sym (ap is_some k)))
+      go false later k = later k
 
-  pub movable_there : (js : List Job) → first_movable p t js < length js → is_admitted (answer p t (move_of p (get_or js (first_movable p t js) no_job))) ≡ true
-  movable_there [] h = absurd (omega arith)
-  movable_there (j ∷ js) h = go (is_admitted (answer p t (move_of p j))) refl (movable_there js) h
+  -- a search that starts with the number i
+  first_from : (js : List Job) (i k : ℕ) → position_from (movable p t) i js ≡ Some k → (d : ℕ) × (k ≡ i + d) × FirstMoves js d
+  first_from [] i k h = absurd (false≢true (ap is_some h))
+  first_from (j ∷ js) i k h = go (movable p t j) refl (first_from js (i + 1) k) h
     where
-      go : (b : Bool) → is_admitted (answer p t (move_of p j)) ≡ b
-          → (first_movable p t js < length js → is_admitted (answer p t (move_at js (first_movable p t js))) ≡ true)
-          → let i = cond b 0 (suc (first_movable p t js)) in
-          i < suc (length js) → is_admitted (answer p t (move_at (j ∷ js) i)) ≡ true
-      go true e later k = e
-      go false e later k = later (omega arith)
+      go : (b : Bool) → movable p t j ≡ b
+          → (position_from (movable p t) (i + 1) js ≡ Some k → (d : ℕ) × (k ≡ i + 1 + d) × FirstMoves js d)
+          → cond b (Some i) (position_from (movable p t) (i + 1) js) ≡ Some k → (d : ℕ) × (k ≡ i + d) × FirstMoves (j ∷ js) d
+      go true e later same =
+          let here : i ≡ k = ap (λ (o : Option ℕ). unwrap_or o 0) same in
+          (0, omega (arith, here), record { below = omega arith; moves = e; earliest = rw e refl })
+      go false e later same =
+          let first = later same in
+          (suc first.0, omega (arith, first.1), record { below = omega (arith, first.2.below); moves = first.2.moves; earliest = rw e first.2.earliest })
+
+  pub first_moves : (i : ℕ) → earliest_position p t ≡ Some i → FirstMoves (jobs_of t) i
+  first_moves i h = let first = first_from (jobs_of t) 0 i h in subst⁻¹ (FirstMoves (jobs_of t)) (omega (arith, first.1)) first.2

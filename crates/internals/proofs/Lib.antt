@@ -1,5 +1,6 @@
 -- The laws that join the code to the definitions. Read in this order.
 pub mod FixedWidth
+pub mod FromFn
 pub mod StageIndex
 pub mod SumsPass
 pub mod SumsAfter

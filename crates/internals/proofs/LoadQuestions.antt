@@ -3,7 +3,8 @@ use Prim.Native.Nat.{ℕ, ◌<◌}
 use native.Mathlib.Omega.{arith}
 use mathlib.Core.Bool.{Bool, true, false, cond, not, false≢true}
 use mathlib.Core.List.{List, [], ◌∷◌}
-use mathlib.Core.Path.{◌≡◌, refl, sym, ◌∙◌}
+use mathlib.Core.Path.{◌≡◌, refl, sym, ap, ◌∙◌}
+use Rattle.std.specs.Prelude.{Err}
 use lib.Dec.{ltb}
 use lib.ListN.{length, length-take}
 use Rattle.model.specs.Limits.{max_number, max_jobs}
@@ -17,14 +18,17 @@ use Rattle.model.specs.declared.Stage.{Stage}
 use Rattle.model.specs.declared.Job.{Job}
 use Rattle.model.proofs.Decide.{Decides, holding, failing, decides_range, decides_lt}
 use Rattle.events.specs.JobList.{jobs_of, Agrees}
-use Rattle.events.specs.Events.{is_admitted, load_questions, kept_questions, kept_answer, agreement, answer, list_outcome}
+use Rattle.events.specs.Events.{is_admitted, load_questions, kept_questions, kept_answer, agreement, answer}
 use Rattle.events.specs.declared.JobList.{JobList}
 use Rattle.events.specs.declared.Event.TheVariants.{Load}
 use Rattle.events.specs.declared.Answer.{Answer}
 use Rattle.events.specs.declared.Answer.TheVariants.{Admitted, BadNumber, WrongActivity, UnknownType, Full}
-use Rattle.internals.specs.Internals.{sums_of, ceilings_of, kept_after, position_of, load_answer}
+use Rattle.internals.specs.Internals.{sums_of, ceilings_of, unless_refused, kept_after, found_in, load_answer}
+use Rattle.internals.specs.JobNumbers.{Judges}
+use Rattle.internals.proofs.Positions.{found_active}
+use Rattle.internals.proofs.ListChanges.{count_is}
 use Rattle.internals.proofs.SumsAfter.{added_exchanged, kept_exchanged}
-use Rattle.internals.proofs.QuestionParts.{by_position, by_count, Refusing, agreement_holds, first_met, met_part, entry_refused, entry_met}
+use Rattle.internals.proofs.QuestionParts.{Refusing, agreement_holds, first_met, met_part, refused_as, judged_error, entry_refused}
 
 -- questions 11 to 16 of a load are met
 pub record Loads (p : Plan) (t : JobList) (n k : ℕ) : Type 0 where
@@ -52,38 +56,45 @@ module _ (p : Plan) (t : JobList) (n k : ℕ) where
   refusing : Refusing own
   refusing = (refl, (refl, (refl, (refl, tt))))
 
-  -- the questions with the number active or not, and so many jobs
+  -- the questions with the number not active or active, and so many jobs
   abbrev further : Bool → ℕ → Answer
-  further active count =
+  further inactive count =
       answer_of Admitted
       (ask (in_range n max_number) BadNumber
-      ∷ ask (not active) WrongActivity
+      ∷ ask inactive WrongActivity
       ∷ ask (in_range k p.types) UnknownType
       ∷ ask (ltb count max_jobs) Full
       ∷ [])
 
-  module _ (first a : Answer) (opens : first ≡ agreement p t) (says : a ≡ load_answer first t.count (position_of n (jobs_of t)) p.types n k) where
-    asked : a ≡ cond (is_admitted first) (answer_of Admitted own) first
+  -- what is asked by what the code has at hand, where questions 11 and 12 are met
+  module _ (met : is_admitted (agreement p t) ≡ true) where
+    asked : load_answer t.count (found_in n (jobs_of t)) p.types n k ≡ answer_of Admitted own
     unfolding load_answer
-    asked = says ∙ by_position p t n first opens (λ b. further b t.count) ∙ by_count p t first opens (further (is_active n (jobs_of t)))
+    asked =
+        ap (λ (b : Bool). further b t.count) (found_active n (jobs_of t))
+        ∙ ap (further (not (is_active n (jobs_of t)))) (count_is p t (agreement_holds p t met).1)
 
-    pub load_refused : is_admitted a ≡ false → record { answer = a; list = t } ≡ list_outcome p t (Load n k)
-    load_refused h =
-        entry_refused p t (Load n k) own (kept_questions p (loaded n k (jobs_of t))) refl refusing first a opens asked h
+    pub load_refused : {A : Type 0} (x : A) {r : Answer} → unless_refused (load_answer t.count (found_in n (jobs_of t)) p.types n k) x ≡ Err r
+        → Judges p t (Load n k) (Err r)
+    load_refused x h =
+        let refused = refused_as _ x h in
+        let other = ap is_admitted (sym refused.1) ∙ refused.0 in
+        judged_error p t (Load n k) _ other
+        (entry_refused p t (Load n k) own (kept_questions p (loaded n k (jobs_of t))) refl refusing (agreement p t) _ refl (sym refused.1 ∙ asked ∙ rw met refl) other)
 
-    pub load_goes : is_admitted a ≡ true → Loads p t n k
+    pub load_goes : is_admitted (load_answer t.count (found_in n (jobs_of t)) p.types n k) ≡ true → Loads p t n k
     unfolding kept_answer
     load_goes h =
         let rest = kept_questions p (loaded n k (jobs_of t)) in
-        let met = entry_met p t (Load n k) own rest refl refusing first a opens asked h in
-        let both = agreement_holds p t met.0 in
-        let named = own_holds p.types (jobs_of t) n k met.1 in
+        let both = agreement_holds p t met in
+        let own_met : is_admitted (answer_of Admitted own) ≡ true = ap is_admitted (sym asked) ∙ h in
+        let named = own_holds p.types (jobs_of t) n k own_met in
         record {
           sound = both.0;
           agrees = both.1;
           type = named.0;
           room = omega (arith, named.1, length-take t.count t.jobs, both.1.slots, both.1.few);
-          answers = first_met p t (Load n k) met.0 ∙ met_part own rest refusing met.1;
+          answers = first_met p t (Load n k) met ∙ met_part own rest refusing own_met;
         }
 
 -- 18 and 19 of a load, by the sums with nothing exchanged for its first stage

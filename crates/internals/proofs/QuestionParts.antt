@@ -5,8 +5,8 @@ use mathlib.Core.Bool.{Bool, true, false, cond, false≢true}
 use mathlib.Core.List.{List, [], ◌∷◌, ◌++◌}
 use mathlib.Core.Logic.{⊎_elim}
 use mathlib.Core.Path.{◌≡◌, refl, sym, ap, ◌∙◌}
-use lib.Dec.{ltb}
-use lib.ListN.{length}
+use Rattle.std.specs.Prelude.{Result, Ok, Err, is_ok}
+use Rattle.std.specs.Result.{result_unwrap_or, IsErrAnd}
 use Rattle.model.specs.Limits.{max_number}
 use Rattle.model.specs.Numbers.{in_range, Each}
 use Rattle.model.specs.Jobs.{is_active}
@@ -20,11 +20,12 @@ use Rattle.events.specs.JobList.{jobs_of, list_of, Agrees}
 use Rattle.events.specs.Events.{is_admitted, first_questions, name_questions, own_questions, agreement, answer, list_after, list_outcome, jobs_after}
 use Rattle.events.specs.declared.JobList.{JobList}
 use Rattle.events.specs.declared.Event.{Event}
+use Rattle.events.specs.declared.ListOutcome.{ListOutcome}
 use Rattle.events.specs.declared.Answer.{Answer}
 use Rattle.events.specs.declared.Answer.TheVariants.{Admitted, UnsoundPlan, Disagreement, BadNumber, WrongActivity}
-use Rattle.internals.specs.Internals.{position_of}
-use Rattle.internals.proofs.Positions.{position_active}
-use Rattle.internals.proofs.ListChanges.{count_is}
+use Rattle.internals.specs.Internals.{unless_refused}
+use Rattle.internals.specs.JobNumbers.{changed_by, applied, Judges}
+use Rattle.internals.specs.declared.Change.{Change}
 use Rattle.events.proofs.JobLists.{decides_agrees}
 use Rattle.events.proofs.Answers.{admitted_or_not}
 
@@ -55,6 +56,38 @@ module _ (qs rs : List (Question Answer)) (refusing : Refusing qs) where
 pub is_admitted_lem : (a : Answer) → is_admitted a ≡ true → a ≡ Admitted
 is_admitted_lem a h = ⊎_elim (λ e. e) (λ (n : is_admitted a ≡ false). absurd (false≢true (sym n ∙ h))) (admitted_or_not a)
 
+abbrev error_or : {A : Type 0} → Answer → Result A Answer → Answer
+error_or a (Ok y) = a
+error_or a (Err e) = e
+
+-- the refusal that `?` passes on
+pub passed_on : {A : Type 0} (r : Result A Answer) {e : Answer} → IsErrAnd r (λ (x : Answer). x ≡ e) → r ≡ Err e
+passed_on (Ok x) h = absurd h
+passed_on (Err x) h = ap (λ (x : Answer). Err x) h
+
+-- where something was handed on the questions were met, and where there is a refusal it is theirs
+module _ {A : Type 0} (a : Answer) (x : A) where
+  pub handed_if : is_ok (unless_refused a x) ≡ is_admitted a
+  handed_if = go (is_admitted a)
+    where
+      go : (b : Bool) → is_ok {T = A} {E = Answer} (cond b (Ok x) (Err a)) ≡ b
+      go true = refl
+      go false = refl
+
+  pub handed_on : {y : A} → unless_refused a x ≡ Ok y → (is_admitted a ≡ true) × (x ≡ y)
+  handed_on {y} h = go (is_admitted a) refl h
+    where
+      go : (b : Bool) → is_admitted a ≡ b → ◌≡◌ {A = Result A Answer} (cond b (Ok x) (Err a)) (Ok y) → (is_admitted a ≡ true) × (x ≡ y)
+      go true e k = (e, ap (λ (r : Result A Answer). result_unwrap_or r x) k)
+      go false e k = absurd (false≢true (ap is_ok k))
+
+  pub refused_as : {r : Answer} → unless_refused a x ≡ Err r → (is_admitted a ≡ false) × (a ≡ r)
+  refused_as {r} h = go (is_admitted a) refl h
+    where
+      go : (b : Bool) → is_admitted a ≡ b → ◌≡◌ {A = Result A Answer} (cond b (Ok x) (Err a)) (Err r) → (is_admitted a ≡ false) × (a ≡ r)
+      go true e k = absurd (false≢true (sym (ap is_ok k)))
+      go false e k = (e, ap (λ (r : Result A Answer). error_or a r) k)
+
 module _ (p : Plan) (t : JobList) where
   first_refuses : Refusing (first_questions p t)
   first_refuses = (refl, (refl, tt))
@@ -78,7 +111,7 @@ module _ (p : Plan) (t : JobList) where
   met_agreement s k = is_admitted_lem (agreement p t) (agreement_met s k)
 
   module _ (e : Event) where
-    first_refused : is_admitted (agreement p t) ≡ false → answer p t e ≡ agreement p t
+    pub first_refused : is_admitted (agreement p t) ≡ false → answer p t e ≡ agreement p t
     unfolding answer agreement
     first_refused h = refused_part (first_questions p t) (own_questions p (jobs_of t) e) first_refuses h
 
@@ -102,6 +135,24 @@ module _ (p : Plan) (t : JobList) where
         where
           list : t ≡ list_after p t e
           list = rw (says, h) refl
+
+    -- a refusal whose outcome is the event's
+    pub judged_error : (r : Answer) → is_admitted r ≡ false → applied t (Err r) ≡ list_outcome p t e → Judges p t e (Err r)
+    judged_error r refused outcome = record { outcome = outcome; admitted = sym (ap (λ (o : ListOutcome). is_admitted o.answer) (sym outcome) ∙ refused) }
+
+    -- so it is with what a function answers, where the event's answer is that of questions which hand on something
+    module _ {A : Type 0} (a : Answer) (x : A) (says : answer p t e ≡ a) where
+      pub judged_refused : {r : Answer} → unless_refused a x ≡ Err r → Judges p t e (Err r)
+      judged_refused h =
+          let k = refused_as a x h in
+          let refused = ap is_admitted (sym k.1) ∙ k.0 in
+          judged_error _ refused (refused_outcome _ (says ∙ k.1) refused)
+
+      pub judged_admitted : {y : A} → unless_refused a x ≡ Ok y → (change : Change) → changed_by t change ≡ list_of (jobs_after p (jobs_of t) e)
+          → Judges p t e (Ok change)
+      judged_admitted h change leads =
+          let met = says ∙ is_admitted_lem a (handed_on a x h).0 in
+          record { outcome = admitted_outcome Admitted met refl (changed_by t change) leads; admitted = ap is_admitted (sym met) }
 
     -- an entrance asks some of the event's own questions where the first two are met
     module _ (own rest : List (Question Answer)) (whole : own_questions p (jobs_of t) e ≡ own ++ rest) (refusing : Refusing own) where
@@ -149,23 +200,3 @@ module _ (js : List Job) (n : ℕ) where
   pub name_met : (rest : List (Question Answer)) → is_admitted (answer_of Admitted (name_questions js n)) ≡ true
       → answer_of Admitted (name_questions js n ++ rest) ≡ answer_of Admitted rest
   name_met rest h = met_part (name_questions js n) rest name_refuses h
-
--- what is asked only of an agreeing list may be asked by what the code has at hand
-module _ (p : Plan) (t : JobList) (first : Answer) (opens : first ≡ agreement p t) where
-  where_agreeing : {x y : Answer} → (Agrees p t → x ≡ y) → cond (is_admitted first) x first ≡ cond (is_admitted first) y first
-  where_agreeing {x} {y} same = go (is_admitted first) refl
-    where
-      go : (b : Bool) → is_admitted first ≡ b → cond b x first ≡ cond b y first
-      go true h = same (agreement_holds p t (ap is_admitted (sym opens) ∙ h)).1
-      go false h = refl
-
-  pub by_count : (further : ℕ → Answer) → cond (is_admitted first) (further t.count) first ≡ cond (is_admitted first) (further (length (jobs_of t))) first
-  by_count further = where_agreeing (λ agrees. ap further (count_is p t agrees))
-
-module _ (p : Plan) (t : JobList) (n : ℕ) (first : Answer) (opens : first ≡ agreement p t) where
-  -- the number is active where the search for it ended below the count
-  pub by_position : (further : Bool → Answer)
-      → cond (is_admitted first) (further (ltb (position_of n (jobs_of t)) t.count)) first ≡ cond (is_admitted first) (further (is_active n (jobs_of t))) first
-  by_position further =
-      where_agreeing p t first opens
-      (λ agrees. ap further (ap (ltb (position_of n (jobs_of t))) (count_is p t agrees) ∙ sym (position_active n (jobs_of t))))

@@ -1,11 +1,13 @@
 -- What the parts of the entrances compute, each under one name. No promise rests on these but that of the row test, `worst_after`: the contracts of
 -- the entrances are equations with the definitions of `events` and `model`.
-use Rattle.std.specs.Prelude.{ℕ, zero, suc, ◌+◌, ◌-◌, ◌≤◌, Bool, true, cond, not, ◌&&◌, List, [], ◌∷◌, ◌++◌, ◌≡◌, length, take, drop, get_or, set, replicate, leb, ltb, eqb}
+use Rattle.std.specs.Prelude.{ℕ, zero, suc, ◌+◌, ◌-◌, ◌≤◌, Bool, true, cond, ◌&&◌, List, [], ◌∷◌, ◌++◌, ◌≡◌, length, take, drop, get_or, set, replicate, leb, ltb, eqb}
+use Rattle.std.specs.Prelude.{Option, None, Some, is_none, Result, Ok, Err}
+use Rattle.std.specs.List.{position_from}
 use Rattle.model.specs.Limits.{max_resources, max_rows, max_all_stages, max_number, max_jobs}
 use Rattle.model.specs.Numbers.{InRange, in_range, at, sum_to, lowest, greatest, Each, each}
 use Rattle.model.specs.Questions.{ask, answer_of}
 use Rattle.model.specs.Plan.{length_of, demand_of, weight_of}
-use Rattle.model.specs.Jobs.{no_job, over_jobs, has_number, job_of, numbers, AtStage, distinct, fits}
+use Rattle.model.specs.Jobs.{no_job, over_jobs, has_number, is_active, job_of, numbers, AtStage, distinct, fits}
 use Rattle.model.specs.Soundness.{Sound}
 use Rattle.model.specs.declared.Plan.{Plan}
 use Rattle.model.specs.declared.Stage.{Stage}
@@ -21,7 +23,7 @@ use Rattle.internals.specs.declared.Sums.{Sums}
 use Rattle.internals.specs.declared.Ceilings.{Ceilings}
 use Rattle.internals.specs.declared.WorstRow.{WorstRow}
 use Rattle.internals.specs.declared.Found.{Found}
-use Rattle.internals.specs.declared.Agreement.{Agreement}
+use Rattle.internals.specs.declared.Agreed.{Agreed}
 use Rattle.internals.specs.declared.StageAsked.{StageAsked}
 use Rattle.internals.specs.declared.StageAsked.TheVariants.{Next, Last, Any}
 
@@ -64,8 +66,9 @@ no_sums = record { units = replicate max_resources 0; rows = replicate max_rows 
 abbrev pub ceilings_of : Plan → Ceilings
 ceilings_of p = record { capacity = p.capacity; bound = p.bound }
 
-abbrev pub no_ceilings : Ceilings
-no_ceilings = record { capacity = replicate max_resources 0; bound = replicate max_rows 0 }
+-- what questions hand on that were answered so: x where that is the acceptance, and else the refusal
+abbrev pub unless_refused : {A : Type 0} → Answer → A → Result A Answer
+unless_refused a x = cond (is_admitted a) (Ok x) (Err a)
 
 -- the lowest of n amounts that is above its ceiling once the old is given back and the new taken; 0 for none
 unfoldable pub lowest_after : ℕ → List ℕ → List ℕ → List ℕ → List ℕ → ℕ
@@ -108,8 +111,9 @@ abbrev pub position_of : ℕ → List Job → ℕ
 position_of n [] = 0
 position_of n (j ∷ js) = cond (has_number n j) 0 (suc (position_of n js))
 
-abbrev pub found_in : ℕ → List Job → Found
-found_in n js = record { at = position_of n js; job = job_of n js }
+-- what a search for the number finds
+abbrev pub found_in : ℕ → List Job → Option Found
+found_in n js = cond (is_active n js) (Some (record { at = position_of n js; job = job_of n js })) None
 
 -- what a refused event hands back
 abbrev pub refusal : Answer → JobList → ListOutcome
@@ -124,24 +128,24 @@ stage_meets Any stage length = true
 abbrev pub stage_met : Plan → StageAsked → Job → Bool
 stage_met p wanted j = stage_meets wanted j.stage (length_of p j.kind)
 
--- questions 13, 14 and 17 of an event whose job must be active, and 13 to 16 of a load, by the count of jobs and the position that the search for the
--- number found; asked where those before were answered 0
-unfoldable pub active_answer : Answer → ℕ → ℕ → ℕ → Bool → Answer
-active_answer first count position n met =
-    cond (is_admitted first)
-    (answer_of Admitted (ask (in_range n max_number) BadNumber ∷ ask (ltb position count) WrongActivity ∷ ask met WrongStage ∷ []))
-    first
-
-unfoldable pub load_answer : Answer → ℕ → ℕ → ℕ → ℕ → ℕ → Answer
-load_answer first count position types n k =
-    cond (is_admitted first)
-    (answer_of Admitted
+-- questions 13 to 16 of a load into a plan with so many types, by the count of jobs and what the search for the number found
+unfoldable pub load_answer : ℕ → Option Found → ℕ → ℕ → ℕ → Answer
+load_answer count found types n k =
+    answer_of Admitted
     (ask (in_range n max_number) BadNumber
-    ∷ ask (not (ltb position count)) WrongActivity
+    ∷ ask (is_none found) WrongActivity
     ∷ ask (in_range k types) UnknownType
     ∷ ask (ltb count max_jobs) Full
-    ∷ []))
-    first
+    ∷ [])
+
+-- questions 13, 14 and 17 of an event whose job must be active, in a plan with so many stages of each type; where they are met, what was found
+unfoldable pub active_answer : List ℕ → Option Found → ℕ → StageAsked → Result Found Answer
+active_answer lengths None n wanted = Err (cond (in_range n max_number) WrongActivity BadNumber)
+active_answer lengths (Some f) n wanted =
+    unless_refused
+    (answer_of Admitted
+    (ask (in_range n max_number) BadNumber ∷ ask (stage_meets wanted f.job.stage (at lengths f.job.kind)) WrongStage ∷ []))
+    f
 
 -- a job list with one job more, with another job at a position, and without the job at a position; where there is no room
 -- or no such job it is handed back as it is
@@ -164,23 +168,16 @@ well_formed types lengths t =
     && each is_no_job (drop t.count t.jobs)
     && (each (fits types lengths) (jobs_of t) && distinct (numbers (jobs_of t)))
 
--- what the first two questions hand on where they are met, and with a refusal
-abbrev pub agreed_with : Sums → Ceilings → Agreement
-agreed_with s c = record { answer = Admitted; sums = s; ceilings = c }
+-- what the first two questions hand on
+unfoldable pub agreed : Plan → JobList → Result Agreed Answer
+agreed p t = unless_refused (agreement p t) (record { sums = sums_of p (jobs_of t); ceilings = ceilings_of p })
 
-abbrev pub refused_with : Answer → Agreement
-refused_with a = record { answer = a; sums = no_sums; ceilings = no_ceilings }
+-- the position of the earliest job whose move is admitted
+abbrev pub movable : Plan → JobList → Job → Bool
+movable p t j = is_admitted (answer p t (move_of p j))
 
-unfoldable pub agreed : Plan → JobList → Agreement
-agreed p t = cond (is_admitted (agreement p t)) (agreed_with (sums_of p (jobs_of t)) (ceilings_of p)) (refused_with (agreement p t))
-
--- the position of the earliest of these jobs whose move is admitted; as many as there are jobs where there is none
-abbrev pub first_movable : Plan → JobList → List Job → ℕ
-first_movable p t [] = 0
-first_movable p t (j ∷ js) = cond (is_admitted (answer p t (move_of p j))) 0 (suc (first_movable p t js))
-
-abbrev pub earliest_position : Plan → JobList → ℕ
-earliest_position p t = first_movable p t (jobs_of t)
+abbrev pub earliest_position : Plan → JobList → Option ℕ
+earliest_position p t = position_from (movable p t) 0 (jobs_of t)
 
 -- the list after the move of the job at this position, where the move is admitted
 abbrev pub moved_at : Plan → JobList → ℕ → JobList

@@ -1,8 +1,14 @@
 // What the parts of the entrances hand each other, as values. What they compute is defined in specs/, and nothing runs here.
 #![tactic(auto)]
 
-use events::Answer;
 use model::Job;
+
+// A job list as it is lent: its count, and three numbers for each of its 64 slots.
+#[derive(Clone, Copy)]
+pub struct LentJobs<'a> {
+    pub count: usize,
+    pub numbers: &'a [u32; 192],
+}
 
 // The units held of each resource and the sum of each row; entry i is resource or row i + 1.
 #[derive(Clone, Copy)]
@@ -19,14 +25,15 @@ pub struct Ceilings {
 }
 
 // The row exceeded by the most, of equals the lowest, and its excess, which is its sum less its bound; 0 and 0 where every row is kept. The excess
-// is 16,320 at most, of 64 jobs of weight 255 where the bound is 0; 32 bits hold that of any sums.
+// is 16,320 at most, of 64 jobs of weight 255 where the bound is 0; 32 bits hold that of any sums. No `Option`: `worst_after` promises the
+// two zeros to all who use the row test.
 #[derive(Clone, Copy)]
 pub struct WorstRow {
     pub row: u32,
     pub excess: u32,
 }
 
-// Where the job with a number stands, counted from 0, and the job; the count and no job where none has the number.
+// Where the job with a number stands, counted from 0, and the job.
 #[derive(Clone, Copy)]
 pub struct Found {
     pub at: usize,
@@ -42,26 +49,17 @@ pub enum StageAsked {
     Any,
 }
 
-// The answer to questions 11 and 12 and, where both are met, the sums over the jobs and what they are held against.
+// What questions 11 and 12 hand on: the sums over the jobs and what they are held against.
 #[derive(Clone, Copy)]
-pub struct Agreement {
-    pub answer: Answer,
+pub struct Agreed {
     pub sums: Sums,
     pub ceilings: Ceilings,
 }
 
-// What an admitted event does to a list: a job comes last, another stands at a position, the one at a position goes. A refused one does nothing.
+// What an admitted event does to a list: a job comes last, another stands at a position, the one at a position goes.
 #[derive(Clone, Copy)]
 pub enum Change {
-    Nothing,
     Added(Job),
     Moved { at: usize, job: Job },
     Removed(usize),
-}
-
-// The answer to an event, and what it does to the list.
-#[derive(Clone, Copy)]
-pub struct Judgement {
-    pub answer: Answer,
-    pub change: Change,
 }

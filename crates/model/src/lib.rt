@@ -30,7 +30,15 @@ pub struct Job {
     pub stage: u32,
 }
 
-// What the upstream check answers; its numbers are `check_numbers` of specs/Upstream.
+// What stands in an empty slot.
+pub const NO_JOB: Job = Job {
+    number: 0,
+    kind: 0,
+    stage: 0,
+};
+
+// What the upstream check answers; its numbers are `check_numbers` of specs/Upstream. One enum, and no `Result`: `check_exact` and the published list speak of `Meets` as of
+// the other answers.
 #[derive(Clone, Copy)]
 pub enum Check {
     Meets,

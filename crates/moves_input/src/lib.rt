@@ -9,19 +9,13 @@ use events::Event;
 use moves_text::EventLine;
 use plan_text::Fields;
 use read_fields::{fields_of, is_skipped, letter_of};
-use read_lines::line_end;
+use read_lines::LineReader;
 
 // The line is exactly `E` and its LF.
 fn is_mark(line: &[u8], ended: bool) -> bool
     ensures { result ≡ is_mark (record { bytes = line.now; ended = ended }) }
 {
-    if !ended {
-        return false;
-    }
-    if line.len() != 1 {
-        return false;
-    }
-    line[0] == b'E'
+    ended && matches!(line, [b'E'])
 }
 
 // How many bytes of the input are its plan: those before the line `E`, and all where there is none.
@@ -29,12 +23,13 @@ pub fn plan_length(input: &[u8]) -> usize
     ensures { result ≡ plan_length input.now }
 {
     let mut at = 0;
-    while at < input.len() {
-        let end = line_end(input, at);
-        if is_mark(&input[at..end], end < input.len()) {
+    let mut reader = LineReader::new(input);
+    // no `for`: after each line the reader is asked where it stands
+    while let Some(line) = reader.next() {
+        if is_mark(line.bytes, line.ended) {
             return at;
         }
-        at = end + 1;
+        at = reader.at;
     }
     input.len()
 }
@@ -43,26 +38,17 @@ pub fn plan_length(input: &[u8]) -> usize
 fn event_with(letter: u8, fields: Fields) -> EventLine
     ensures { result ≡ event_with letter fields }
 {
-    let count = fields.count;
-    let numbers = fields.numbers;
-    let first = numbers[0];
-    let second = numbers[1];
-    if letter == b'L' && count == 2 {
-        return EventLine::Given(Event::Load {
+    let [first, second, ..] = fields.numbers;
+    match (letter, fields.count) {
+        (b'L', 2) => EventLine::Given(Event::Load {
             job: first,
             kind: second,
-        });
+        }),
+        (b'A', 1) => EventLine::Given(Event::Advance(first)),
+        (b'U', 1) => EventLine::Given(Event::Unload(first)),
+        (b'X', 1) => EventLine::Given(Event::Pull(first)),
+        _ => EventLine::Malformed,
     }
-    if letter == b'A' && count == 1 {
-        return EventLine::Given(Event::Advance(first));
-    }
-    if letter == b'U' && count == 1 {
-        return EventLine::Given(Event::Unload(first));
-    }
-    if letter == b'X' && count == 1 {
-        return EventLine::Given(Event::Pull(first));
-    }
-    EventLine::Malformed
 }
 
 // What a line after the `E` says.
@@ -76,7 +62,8 @@ pub fn event_of(line: &[u8], ended: bool) -> EventLine
     if is_skipped(line) {
         return EventLine::Skipped;
     }
-    let letter = letter_of(line);
-    let fields = fields_of(line);
-    event_with(letter, fields)
+    match fields_of(line) {
+        Some(fields) => event_with(letter_of(line), fields),
+        None => EventLine::Malformed,
+    }
 }

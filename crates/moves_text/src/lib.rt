@@ -4,7 +4,7 @@
 
 use events::Event;
 
-// A line after the `E`: skipped, of no known form (41), or an event.
+// A line after the `E`: skipped, of no known form (41), or an event. One enum of three, which `Means` (specs/EventLines) speaks of.
 #[derive(Clone, Copy)]
 pub enum EventLine {
     Skipped,

@@ -1,11 +1,12 @@
--- The two forms of a plan. What a promise speaks of is a plan with its list of stages; what runs is a frame, by value, and the bytes of the
--- stages, one behind the other, lent where they lie. `plan_over` is the plan that the two are.
+-- The two forms of a plan. What a promise speaks of is a plan with its list of stages; what runs is a frame and the bytes of the stages, one behind
+-- the other, both lent where they lie (`LentPlan`). `plan_over` is the plan that the two are.
 use Rattle.std.specs.Prelude.{ℕ, zero, suc, ◌+◌, ◌*◌, cond, ◌&&◌, List, [], ◌∷◌, ◌++◌, eqb, ltb, length, take, drop, replicate}
 use Rattle.model.specs.Limits.{max_resources, max_types, max_rows, max_all_stages}
 use Rattle.model.specs.Plan.{no_stage}
 use Rattle.model.specs.declared.Stage.{Stage}
 use Rattle.model.specs.declared.Plan.{Plan}
 use Rattle.plan_bytes.specs.declared.Frame.{Frame}
+use Rattle.plan_bytes.specs.declared.LentPlan.{LentPlan}
 
 -- n bytes from an offset on
 abbrev pub bytes_from : ℕ → ℕ → List ℕ → List ℕ
@@ -51,6 +52,10 @@ whole_stages bytes = cond (eqb (length bytes) stages_size) bytes []
 -- the plan of a frame and of the bytes lent. With bytes too few or too many no stage demands anything, so it is not sound
 unfoldable pub plan_over : Frame → List ℕ → Plan
 plan_over f bytes = plan_read f (whole_stages bytes)
+
+-- the plan that is lent
+abbrev pub plan_of : LentPlan → Plan
+plan_of p = plan_over p.frame.now p.stages.now
 
 -- the stage at an index, counted from 0; none beyond the last, and where the bytes are not those of all stages
 unfoldable pub stage_at : List ℕ → ℕ → Stage

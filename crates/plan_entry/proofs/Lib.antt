@@ -1,2 +1,2 @@
--- The laws behind the code: an entry that a list lacks, and one that is put there.
+-- The laws of an entry that a list lacks.
 pub mod Outside

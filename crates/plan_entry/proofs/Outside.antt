@@ -1,14 +1,12 @@
--- What stands outside a list, by number: whatever stands for an entry that the list lacks; and nothing is put there.
-use Prim.Native.Nat.{ℕ, zero, suc, ◌-◌, ◌≤◌}
+-- What stands outside a list, by number: whatever stands for an entry that the list lacks.
+use Prim.Native.Nat.{ℕ, zero, suc, ◌≤◌}
 use native.Mathlib.Omega.{arith}
 use mathlib.Core.List.{List}
 use mathlib.Core.Logic.{⊎_elim}
-use mathlib.Core.Path.{◌≡◌, refl, sym}
+use mathlib.Core.Path.{◌≡◌, refl}
 use lib.ListN.{length, get_or-eq_default}
-use lib.Seq.{set_out}
 use Rattle.model.specs.Numbers.{InRange, entry}
 use Rattle.model.proofs.Decide.{decided, decides_le}
-use Rattle.plan_text.specs.Draft.{put}
 
 pub outside : {A : Type 0} (xs : List A) (i : ℕ) (d : A) → (¬ InRange i (length xs)) → entry xs i d ≡ d
 outside xs zero d h = refl
@@ -27,6 +25,3 @@ not_within i (suc n) h r = not_within i n h.0 (omega (arith, h.1))
 
 pub unmatched : {A : Type 0} (xs : List A) (i : ℕ) (d : A) → Unmatched i (length xs) → entry xs i d ≡ d
 unmatched xs i d h = outside xs i d (not_within i (length xs) h)
-
-pub put_outside : (xs : List ℕ) (n x i : ℕ) → i ≡ n - 1 → length xs ≤ i → xs ≡ put xs n x
-put_outside xs n x i here h = rw (← here) (sym (set_out xs i x h))

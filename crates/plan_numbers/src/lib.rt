@@ -20,7 +20,7 @@ pub fn check_number(c: Check) -> u32
         Check::Meets => 0,
         Check::UnsoundPlan => UNSOUND_PLAN,
         Check::NoRank => NO_RANK,
-        Check::NotOneUnit { kind: _, stage: _ } => NOT_ONE_UNIT,
+        Check::NotOneUnit { .. } => NOT_ONE_UNIT,
         Check::RowCount => ROW_COUNT,
         Check::WrongWeight(_) => WRONG_WEIGHT,
         Check::WrongBound(_) => WRONG_BOUND,
@@ -32,13 +32,9 @@ pub fn check_first(c: Check) -> u32
     ensures { result ≡ (check_numbers c).1 }
 {
     match c {
-        Check::NotOneUnit { kind, stage: _ } => kind,
-        Check::WrongWeight(row) => row,
-        Check::WrongBound(row) => row,
-        Check::Meets => 0,
-        Check::UnsoundPlan => 0,
-        Check::NoRank => 0,
-        Check::RowCount => 0,
+        Check::NotOneUnit { kind, .. } => kind,
+        Check::WrongWeight(row) | Check::WrongBound(row) => row,
+        Check::Meets | Check::UnsoundPlan | Check::NoRank | Check::RowCount => 0,
     }
 }
 
@@ -47,13 +43,9 @@ pub fn check_second(c: Check) -> u32
     ensures { result ≡ (check_numbers c).2 }
 {
     match c {
-        Check::NotOneUnit { kind: _, stage } => stage,
-        Check::Meets => 0,
-        Check::UnsoundPlan => 0,
-        Check::NoRank => 0,
-        Check::RowCount => 0,
-        Check::WrongWeight(_) => 0,
-        Check::WrongBound(_) => 0,
+        Check::NotOneUnit { stage, .. } => stage,
+        Check::Meets | Check::UnsoundPlan | Check::NoRank | Check::RowCount => 0,
+        Check::WrongWeight(_) | Check::WrongBound(_) => 0,
     }
 }
 

@@ -9,7 +9,6 @@ use mathlib.Core.Path.{◌≡◌, refl, sym, ap}
 use lib.Dec.{leb}
 use lib.ListN.{length, drop}
 use borrow.Author.Tests.{lt-leb, eq-eqb}
-use Rattle.model.specs.Numbers.{at}
 use Rattle.model.specs.Questions.{Question, answer_of}
 use Rattle.model.specs.Plan.{empty_plan}
 use Rattle.model.specs.Soundness.{Sound}

@@ -1,13 +1,15 @@
 -- The line that begins at an offset is the first of the lines that are left, and the others begin behind it: by where a search for
 -- the next LF ends.
 use Prim.Native.Nat.{ℕ, ◌+◌, ◌-◌, ◌≤◌, ◌<◌}
+use native.Mathlib.Nat.{add-zero}
 use native.Mathlib.Omega.{arith}
 use mathlib.Core.Bool.{Bool, true, false, cond}
-use mathlib.Core.List.{List, ◌∷◌}
+use mathlib.Core.List.{List, [], ◌∷◌}
 use mathlib.Core.Logic.{⊎_elim}
 use mathlib.Core.Path.{◌≡◌, refl, sym, ap, ◌∙◌}
 use lib.Dec.{ltb, leb}
 use lib.ListN.{length, take, drop, drop_of_length-le}
+use lib.Seq.{take-length}
 use borrow.Author.Tests.{lt-ltb, le-ltb, le-leb, lt-leb, ltb-false, leb-true, leb-false}
 use Rattle.byte_slices.specs.Bytes.{slice, index_of}
 use Rattle.model.proofs.Decide.{decided, decides_lt}
@@ -61,6 +63,17 @@ module _ (text : List ℕ) (at : ℕ) where
   -- where a search for the next LF ends
   abbrev searched : ℕ
   searched = at + index_of line_end (slice at (length text) text)
+
+  -- so there the line ends, and past the end of the text too
+  pub end_searched : (span_from text at).end ≡ searched
+  unfolding index_of slice
+  end_searched =
+      ⊎_elim (λ (h : at < length text). span_end searched refl h)
+      (λ (h : ¬ (at < length text)).
+      let whole : take (length text) text ≡ text = take-length text in
+      let none : drop at text ≡ [] = drop_of_length-le text {i = at} (omega arith) in
+      ap (λ (p : LineSpan). p.end) (span_over (omega arith)) ∙ rw (whole, none) (sym (add-zero at)))
+      (decided (decides_lt at (length text)))
 
   -- all is told by where the line ends
   pub span_by_end : let end = (span_from text at).end in

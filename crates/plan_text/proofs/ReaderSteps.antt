@@ -1,5 +1,5 @@
--- For the reader's loop: what is left to read from here is what was to be read at the start. A refusal of a group of questions is
--- the reading's, and where a line's questions are met the reading goes on with its record written, entry by entry.
+-- For the reader's loop: what is left to read from here is what was to be read at the start. A refusal of a line's questions is
+-- the reading's, and where they are met the reading goes on with its record written.
 use Prim.Native.Nat.{ℕ, zero, suc, ◌+◌, ◌-◌, ◌%◌, ◌≤◌, ◌<◌}
 use native.Mathlib.Nat.{mod-eq_of_lt}
 use native.Mathlib.Numerals.{sub-one}
@@ -7,32 +7,28 @@ use native.Mathlib.Omega.{arith}
 use mathlib.Core.Bool.{Bool, true, false, cond, false≢true}
 use mathlib.Core.List.{List, [], ◌∷◌, ◌++◌, map}
 use mathlib.Core.Logic.{◌⊎◌, inl, inr, ⊎_elim}
-use mathlib.Core.Path.{◌≡◌, refl, sym, ap, subst, ◌∙◌}
+use mathlib.Core.Path.{◌≡◌, refl, sym, subst, ◌∙◌}
 use lib.Dec.{eqb, leb}
-use lib.ListN.{length, get_or, set, get_or-eq_default}
+use lib.ListN.{length, get_or-eq_default}
 use lib.Seq.{set_out}
 use borrow.Author.Tests.{eq-eqb, ne_eqb, leb-true}
 use Rattle.model.specs.Limits.{max_types, max_all_stages}
 use Rattle.model.specs.Numbers.{InRange, at, sum_to}
 use Rattle.model.specs.Questions.{Question, answer_of}
-use Rattle.model.specs.Plan.{no_stage}
-use Rattle.model.specs.declared.Stage.{Stage}
 use Rattle.model.proofs.Decide.{decided, decides_eq, decides_le, holds}
 use Rattle.model.proofs.Flat.{sum_up_to}
 use Rattle.plan_text.specs.Lines.{Line}
-use Rattle.plan_text.specs.Records.{record_in}
+use Rattle.plan_text.specs.Records.{no_record, record_in}
 use Rattle.plan_text.specs.RecordTests.{Known, known_of, in_ranges}
 use Rattle.plan_text.specs.ReaderInternals.{InKnown}
-use Rattle.plan_text.specs.Draft.{Draft, put, index_named, entries_after, bounded_after, stage_after_record, draft_after, held_in, of_section}
+use Rattle.plan_text.specs.Draft.{Draft, put, index_named, entries_after, draft_after, held_in, of_section}
 use Rattle.plan_text.specs.Reading.{refused, form_questions, within_total, record_questions, of_line, read_from}
 use Rattle.plan_text.specs.TextQuestions.{is_accepted}
-use Rattle.plan_text.specs.ReaderInternals.{form_answer, record_answer, narrowed, counts_after, head_after, draft_with, known_with}
+use Rattle.plan_text.specs.ReaderInternals.{form_answer, record_answer, line_answer, narrowed}
 use Rattle.plan_text.specs.Meaning.{line}
 use Rattle.plan_text.specs.declared.Record.{Record}
-use Rattle.plan_text.specs.declared.Counts.{Counts}
-use Rattle.plan_text.specs.declared.Head.{Head}
 use Rattle.plan_text.specs.declared.TextAnswer.{TextAnswer}
-use Rattle.plan_text.specs.declared.TextAnswer.TheVariants.{Accepted}
+use Rattle.plan_text.specs.declared.TextAnswer.TheVariants.{Accepted, OutOfRange, Repeated}
 use Rattle.plan_text.specs.declared.Reading.{Reading}
 use Rattle.plan_text.proofs.RecordLists.{put_same, put_other, sum_before}
 use Rattle.plan_text.proofs.Sections.{of_section_lem}
@@ -80,24 +76,61 @@ module _ (n from : ℕ) (d : Draft) (l : Line) (ls : List Line) where
   abbrev after : Reading
   after = read_from (n + 1) (to + 1) (draft_after d (record_in l.bytes)) ls
 
-  abbrev answer : TextAnswer
-  answer = record_answer (known_of d.plan) (held_in d (record_in l.bytes)) d.plan.lengths (record_in l.bytes)
+  pub line_refused : is_accepted (line_answer d l) ≡ false → read_from n from d (l ∷ ls) ≡ refused (line_answer d l) (n + 1) from to
+  line_refused e = group_refused (n + 1) from to after (form_questions d.section l ++ record_questions d (record_in l.bytes)) [] e
 
-  pub form_refused : is_accepted (form_answer d.section l) ≡ false → read_from n from d (l ∷ ls) ≡ refused (form_answer d.section l) (n + 1) from to
-  form_refused e = group_refused (n + 1) from to after (form_questions d.section l) (record_questions d (record_in l.bytes)) e
-
-  form_met : is_accepted (form_answer d.section l) ≡ true
-      → read_from n from d (l ∷ ls) ≡ told (n + 1) from to after (record_questions d (record_in l.bytes) ++ [])
+  pub line_read : is_accepted (line_answer d l) ≡ true → read_from n from d (l ∷ ls) ≡ after
   unfolding Refusals
-  form_met e = group_met (n + 1) from to after (form_questions d.section l) (record_questions d (record_in l.bytes)) (refl, (refl, (refl, tt))) e
+  line_read e =
+      group_met (n + 1) from to after (form_questions d.section l ++ record_questions d (record_in l.bytes)) []
+      (refl, (refl, (refl, (refl, (refl, (refl, tt)))))) e
 
-  pub record_refused : is_accepted (form_answer d.section l) ≡ true → is_accepted answer ≡ false
-      → read_from n from d (l ∷ ls) ≡ refused answer (n + 1) from to
-  record_refused e f = form_met e ∙ group_refused (n + 1) from to after (record_questions d (record_in l.bytes)) [] f
+-- the answer to two groups: that of the first where it refuses, else that of the second
+first_decides : (qs rest : List (Question TextAnswer)) → is_accepted (answer_of Accepted qs) ≡ false
+    → answer_of Accepted (qs ++ rest) ≡ answer_of Accepted qs
+first_decides [] rest e = absurd (false≢true (sym e))
+first_decides (q ∷ qs) rest e = go q.met (first_decides qs rest) e
+  where
+    go : (b : Bool) → (is_accepted (answer_of Accepted qs) ≡ false → answer_of Accepted (qs ++ rest) ≡ answer_of Accepted qs)
+        → is_accepted (cond b (answer_of Accepted qs) q.refusal) ≡ false
+        → cond b (answer_of Accepted (qs ++ rest)) q.refusal ≡ cond b (answer_of Accepted qs) q.refusal
+    go true later e = later e
+    go false later e = refl
 
-  pub line_read : is_accepted (form_answer d.section l) ≡ true → is_accepted answer ≡ true → read_from n from d (l ∷ ls) ≡ after
+second_decides : (qs rest : List (Question TextAnswer)) → Refusals qs → is_accepted (answer_of Accepted qs) ≡ true
+    → answer_of Accepted (qs ++ rest) ≡ answer_of Accepted rest
+unfolding Refusals
+second_decides [] rest refuse e = refl
+second_decides (q ∷ qs) rest refuse e = go q.met (second_decides qs rest refuse.1) e
+  where
+    go : (b : Bool) → (is_accepted (answer_of Accepted qs) ≡ true → answer_of Accepted (qs ++ rest) ≡ answer_of Accepted rest)
+        → is_accepted (cond b (answer_of Accepted qs) q.refusal) ≡ true → cond b (answer_of Accepted (qs ++ rest)) q.refusal ≡ answer_of Accepted rest
+    go true later e = later e
+    go false later e = absurd (false≢true (sym refuse.0 ∙ e))
+
+-- so the answer to a line is that of its form where that refuses, else that of its record
+module _ (d : Draft) (l : Line) where
+  pub form_decides : is_accepted (form_answer d.section l) ≡ false → line_answer d l ≡ form_answer d.section l
+  form_decides = first_decides (form_questions d.section l) (record_questions d (record_in l.bytes))
+
+  pub record_decides : is_accepted (form_answer d.section l) ≡ true → line_answer d l ≡ record_answer d (record_in l.bytes)
   unfolding Refusals
-  line_read e f = form_met e ∙ group_met (n + 1) from to after (record_questions d (record_in l.bytes)) [] (refl, (refl, (refl, tt))) f
+  record_decides = second_decides (form_questions d.section l) (record_questions d (record_in l.bytes)) (refl, (refl, (refl, tt)))
+
+-- no record is accepted
+pub none_accepted : (d : Draft) → record_answer d no_record ≡ Accepted
+unfolding in_ranges held_in
+none_accepted d = refl
+
+-- where the answer to a record is the acceptance, its numbers and the total are in range
+pub record_met : (d : Draft) (r : Record) → is_accepted (record_answer d r) ≡ true → (in_ranges (known_of d.plan) r ≡ true) × (within_total d.plan.lengths r ≡ true)
+record_met d r = go (in_ranges (known_of d.plan) r) (eqb (held_in d r) 0) (within_total d.plan.lengths r)
+  where
+    go : (a b c : Bool) → is_accepted (cond a (cond b (cond c Accepted OutOfRange) Repeated) OutOfRange) ≡ true → (a ≡ true) × (c ≡ true)
+    go true true true e = (refl, refl)
+    go true true false e = absurd (false≢true e)
+    go true false c e = absurd (false≢true e)
+    go false b c e = absurd (false≢true e)
 
 -- numbers in range are what a plan's entries can hold
 module _ (k : Known) (bytes : (i : ℕ) → at k.capacity i ≤ 255) (r : Record) (met : in_ranges k r ≡ true) where
@@ -107,84 +140,35 @@ module _ (k : Known) (bytes : (i : ℕ) → at k.capacity i ≤ 255) (r : Record
   uncut : (x n : ℕ) → x < n → x % n ≡ x
   uncut x n h = mod-eq_of_lt h
 
-  second_uncut : (r.section ≡ 2) ⊎ (r.section ≡ 3) ⊎ (r.section ≡ 7) → r.second % 256 ≡ r.second
-  second_uncut (inl e) = uncut r.second 256 (omega (arith, (ranges_of 2 e).1.0))
-  second_uncut (inr (inl e)) = uncut r.second 256 (omega (arith, (ranges_of 3 e).1.0))
-  second_uncut (inr (inr e)) = uncut r.second 256 (omega (arith, (ranges_of 7 e).1.0))
-
-  entries_uncut : (n : ℕ) → (r.section ≡ n → (narrowed r).second ≡ r.second) → (xs : List ℕ) → entries_after n xs (narrowed r) ≡ entries_after n xs r
-  entries_uncut n same xs =
-      ⊎_elim (λ (e : r.section ≡ n). rw (eq-eqb r.section n e) (ap (put xs r.first) (same e)))
-      (λ (ne : ¬ (r.section ≡ n)). rw (ne_eqb r.section n ne) refl)
+  -- the new value is the same where the record is of section n, and else the old
+  same_by : (n new old x : ℕ) → (r.section ≡ n → new ≡ x) → old ≡ x → of_section r n new old ≡ x
+  same_by n new old x at_n else_so =
+      ⊎_elim (λ (e : r.section ≡ n). rw (eq-eqb r.section n e) (at_n e))
+      (λ (ne : ¬ (r.section ≡ n)). rw (ne_eqb r.section n ne) else_so)
       (decided (decides_eq r.section n))
 
-  pub capacity_uncut : (xs : List ℕ) → entries_after 2 xs (narrowed r) ≡ entries_after 2 xs r
-  capacity_uncut = entries_uncut 2 (λ e. rw (ne_eqb r.section 5 (λ f. omega arith)) (second_uncut (inl e)))
+  first_uncut : (narrowed r).first ≡ r.first
+  first_uncut = same_by 1 _ _ r.first (λ e. uncut r.first 256 (omega (arith, (ranges_of 1 e).0))) refl
 
-  pub lengths_uncut : (xs : List ℕ) → entries_after 3 xs (narrowed r) ≡ entries_after 3 xs r
-  lengths_uncut = entries_uncut 3 (λ e. rw (ne_eqb r.section 5 (λ f. omega arith)) (second_uncut (inr (inl e))))
+  second_uncut : (narrowed r).second ≡ r.second
+  second_uncut =
+      same_by 1 _ _ r.second (λ e. uncut r.second 256 (omega (arith, (ranges_of 1 e).1.0)))
+      (same_by 2 _ _ r.second (λ e. uncut r.second 256 (omega (arith, (ranges_of 2 e).1.0)))
+      (same_by 3 _ _ r.second (λ e. uncut r.second 256 (omega (arith, (ranges_of 3 e).1.0)))
+      (same_by 5 _ _ r.second (λ e. uncut r.second 65536 (omega (arith, (ranges_of 5 e).1.0)))
+      (same_by 7 _ _ r.second (λ e. uncut r.second 256 (omega (arith, (ranges_of 7 e).1.0))) refl))))
 
-  pub rank_uncut : (xs : List ℕ) → entries_after 7 xs (narrowed r) ≡ entries_after 7 xs r
-  rank_uncut = entries_uncut 7 (λ e. rw (ne_eqb r.section 5 (λ f. omega arith)) (second_uncut (inr (inr e))))
+  third_uncut : (narrowed r).third ≡ r.third
+  third_uncut = same_by 1 _ _ r.third (λ e. uncut r.third 256 (omega (arith, (ranges_of 1 e).1.1.0))) refl
 
-  pub bound_uncut : (xs : List ℕ) → entries_after 5 xs (narrowed r) ≡ entries_after 5 xs r
-  bound_uncut = entries_uncut 5 (λ e. rw (eq-eqb r.section 5 e) (uncut r.second 65536 (omega (arith, (ranges_of 5 e).1.0))))
+  fourth_uncut : (narrowed r).fourth ≡ r.fourth
+  fourth_uncut =
+      same_by 4 _ _ r.fourth (λ e. uncut r.fourth 256 (omega (arith, (ranges_of 4 e).1.1.1.0, bytes r.third)))
+      (same_by 6 _ _ r.fourth (λ e. uncut r.fourth 256 (omega (arith, (ranges_of 6 e).1.1.1.0))) refl)
 
-  fourth_uncut : (r.section ≡ 4) ⊎ (r.section ≡ 6) → r.fourth % 256 ≡ r.fourth
-  fourth_uncut (inl e) = uncut r.fourth 256 (omega (arith, (ranges_of 4 e).1.1.1.0, bytes r.third))
-  fourth_uncut (inr e) = uncut r.fourth 256 (omega (arith, (ranges_of 6 e).1.1.1.0))
-
-  pub stage_uncut : (s : Stage) → stage_after_record s (narrowed r) ≡ stage_after_record s r
-  stage_uncut s = go (decided (decides_eq r.section 4)) (decided (decides_eq r.section 6))
-    where
-      go : (r.section ≡ 4) ⊎ (¬ (r.section ≡ 4)) → (r.section ≡ 6) ⊎ (¬ (r.section ≡ 6)) → stage_after_record s (narrowed r) ≡ stage_after_record s r
-      go (inl e) b = rw (fourth_uncut (inl e)) refl
-      go (inr a) (inl e) = rw (fourth_uncut (inr e)) refl
-      go (inr a) (inr b) = rw (ne_eqb r.section 4 a, ne_eqb r.section 6 b) refl
-
-  count_uncut : (x y : ℕ) → (r.section ≡ 1 → x < 256) → cond (eqb r.section 1) (x % 256) y ≡ cond (eqb r.section 1) x y
-  count_uncut x y h =
-      ⊎_elim (λ (e : r.section ≡ 1). rw (eq-eqb r.section 1 e) (uncut x 256 (h e)))
-      (λ (ne : ¬ (r.section ≡ 1)). rw (ne_eqb r.section 1 ne) refl)
-      (decided (decides_eq r.section 1))
-
-  pub counts_uncut : (c : Counts)
-      → ((counts_after c r).resources ≡ of_section r 1 r.first c.resources) × ((counts_after c r).types ≡ of_section r 1 r.second c.types)
-      × ((counts_after c r).rows ≡ of_section r 1 r.third c.rows)
-  counts_uncut c = (
-    count_uncut r.first c.resources (λ e. omega (arith, (ranges_of 1 e).0)),
-    count_uncut r.second c.types (λ e. omega (arith, (ranges_of 1 e).1.0)),
-    count_uncut r.third c.rows (λ e. omega (arith, (ranges_of 1 e).1.1.0)),
-  )
-
--- the parts of a draft after a record, as the code makes them, are those of the draft with the record written
-module _ (h : Head) (capacity rank bound lengths : List ℕ) (stages : List Stage) (bounded : List ℕ) (r : Record) where
-  pub parts_written : (bytes : (i : ℕ) → at capacity i ≤ 255) → in_ranges (known_with h.counts capacity lengths) r ≡ true
-      → (i : ℕ) → i ≡ index_named lengths r → (s : Stage) → s ≡ stage_after_record (get_or stages i no_stage) (narrowed r)
-      → draft_with (head_after h r) (entries_after 2 capacity (narrowed r)) (entries_after 7 rank (narrowed r)) (entries_after 5 bound (narrowed r))
-      (entries_after 3 lengths (narrowed r)) (set stages i s) (bounded_after bounded r)
-      ≡ draft_after (draft_with h capacity rank bound lengths stages bounded) r
-  unfolding draft_after
-  parts_written bytes met i at-index s made =
-      let k = known_with h.counts capacity lengths in
-      let counts = counts_uncut k bytes r met h.counts in
-      let new : set stages i s ≡ set stages (index_named lengths r) (stage_after_record (get_or stages (index_named lengths r) no_stage) r) =
-      ap (set stages i) (made ∙ stage_uncut k bytes r met (get_or stages i no_stage))
-      ∙ ap (λ j. set stages j (stage_after_record (get_or stages j no_stage) r)) at-index in
-      λ j. record {
-        plan = record {
-          resources = counts.0 j;
-          types = counts.1 j;
-          rows = counts.2 j;
-          capacity = capacity_uncut k bytes r met capacity j;
-          rank = rank_uncut k bytes r met rank j;
-          bound = bound_uncut k bytes r met bound j;
-          lengths = lengths_uncut k bytes r met lengths j;
-          stages = new j;
-        };
-        bounded = bounded_after bounded r;
-        section = of_section r 0 h.section r.section;
-      }
+  pub narrowed_same : narrowed r ≡ r
+  narrowed_same =
+      λ i. record { section = r.section; first = first_uncut i; second = second_uncut i; third = third_uncut i; fourth = fourth_uncut i }
 
 -- the stages of all types stay within 128, so every stage that a record names has its slot
 module _ (xs : List ℕ) (i v : ℕ) (low : 1 ≤ i) where

@@ -6,7 +6,7 @@ use model::Plan;
 use plan_bytes::Frame;
 
 // Where the line that begins at an offset of a text ends, where the next begins, whether it has its LF, and whether the text was at
-// its end, so that there is none.
+// its end, so that there is none. A flag: `span_from` (specs/LineReading) says the rest of any offset.
 #[derive(Clone, Copy)]
 pub struct LineSpan {
     pub end: usize,
@@ -16,7 +16,7 @@ pub struct LineSpan {
 }
 
 // A record: the section of its letter, 1 to 7 in the order C, R, T, S, B, A, K, and its numbers in the order of the fields, 0
-// where it has no such field. Section 0 is no record: a skipped line.
+// where it has no such field. Section 0 is no record: a skipped line. A number, since records are sorted by it, and the theorems of canonical texts speak of it so.
 #[derive(Clone, Copy)]
 pub struct Record {
     pub section: u32,
@@ -26,14 +26,15 @@ pub struct Record {
     pub fourth: u32,
 }
 
-// The fields of a line, read as numbers: how many there are, 5 where one is no number or there is a fifth, and their numbers.
+// The fields of a line, read as numbers: how many there are, 5 where one is no number or there is a fifth (`fields_read`), and their numbers. An array with a count, as nothing is
+// allocated here.
 #[derive(Clone, Copy)]
 pub struct Fields {
     pub count: usize,
     pub numbers: [u32; 4],
 }
 
-// What a plan text is answered; its numbers are `text_number` of specs/TextQuestions.
+// What a plan text is answered; its numbers are `text_number` of specs/TextQuestions, and its theorems and the published list speak of `Accepted` as of the others.
 #[derive(Clone, Copy)]
 pub enum TextAnswer {
     Accepted,
@@ -46,30 +47,9 @@ pub enum TextAnswer {
     Incomplete,
 }
 
-// The answer to questions 2 to 4 of a line, and its record where they are met.
-#[derive(Clone, Copy)]
-pub struct Form {
-    pub answer: TextAnswer,
-    pub read: Record,
-}
-
-// The counts of a plan, as its C says them.
-#[derive(Clone, Copy)]
-pub struct Counts {
-    pub resources: u8,
-    pub types: u8,
-    pub rows: u8,
-}
-
-// What records say beside the lists of a plan: its counts, and the section of the last record, 0 for none.
-#[derive(Clone, Copy)]
-pub struct Head {
-    pub counts: Counts,
-    pub section: u32,
-}
-
 // The answer with the line that decides it, counted from 1, where that line stands in the text, from its first byte up to but not
-// including its LF, and the plan; the empty plan where the text is refused. It is the meaning, and no code makes one.
+// including its LF, and the plan; the empty plan where the text is refused. It is the meaning, and no code makes one. No `Result`:
+// a refused text yields the empty plan, which is demand 1.
 #[derive(Clone, Copy)]
 pub struct Reading {
     pub answer: TextAnswer,

@@ -67,12 +67,13 @@ module _ (p : Plan) (sound : Sound p) where
       indexed = at-index.indexed
 
       -- at a stage, it is the lowest that does not
-      pub faulty : a.kind < p.types → (faulty_type p ≡ a.kind + 1) × (faulty_stage p (suc a.kind) ≡ a.stage + 1)
+      pub faulty : (faulty_type p ≡ a.kind + 1) × (faulty_stage p (a.kind + 1) ≡ a.stage + 1)
       unfolding faulty_type faulty_stage
-      faulty h =
+      faulty =
+          let h : a.kind < p.types = at-index.of_type in
           let t = suc a.kind in
           let before : t - 1 ≡ a.kind = omega arith in
-          let more : a.stage < length_of p t = at-index.of_stage h in
+          let more : a.stage < length_of p t = at-index.of_stage in
           let here : index + 1 ≡ flat_index (length_of p) t (suc a.stage) = rw before (omega (arith, indexed)) in
           let stage : IsStage p t (suc a.stage) = ((omega arith, h), (omega arith, more)) in
           let inside : index < max_all_stages = index_within p sound t (suc a.stage) stage index here in
@@ -82,29 +83,27 @@ module _ (p : Plan) (sound : Sound p) where
           (lowest_none a.stage (one_unit p t) (λ k g. passed t k ((omega arith, h), (g.0, omega arith)) (rw before (omega (arith, indexed))))) other in
           let types : lowest a.kind (λ (u : ℕ). eqb (faulty_stage p u) 0) ≡ 0 =
           lowest_none a.kind _ (λ u g. eq-eqb _ 0 (type_passed u (g.0, omega arith)
-          (λ k r. omega (arith, indexed, flat_before (length_of p) u k a.kind g.0 g.1 r.1)))) in
-          (lowest_at (λ (u : ℕ). eqb (faulty_stage p u) 0) p.types a.kind h types (ne_eqb (faulty_stage p t) 0 (λ e. omega (arith, stages, e))), stages)
+          (λ k r. omega (arith, indexed, flat_before (length_of p) u k a.kind g.0 g.1 r.1)))) in (
+            lowest_at (λ (u : ℕ). eqb (faulty_stage p u) 0) p.types a.kind h types (ne_eqb (faulty_stage p t) 0 (λ e. omega (arith, stages, e))),
+            rw (add-one a.kind) stages,
+          )
 
-      -- past the last type there is none, and it is the end
-      module _ (past : p.types ≤ a.kind) where
-        whole : index ≡ all_stages p + a.stage
-        unfolding all_stages
-        whole = let e : a.kind ≡ p.types = omega (arith, at-index.of_type) in rw (← e) indexed
+    -- past the last type there is none, and it is the end
+    module _ (past : all_stages p ≤ index) where
+      pub none_faulty : faulty_type p ≡ 0
+      unfolding faulty_type
+      none_faulty =
+          lowest_none p.types _ (λ t h. eq-eqb _ 0 (type_passed t h (λ k g. omega (arith, past, index_of_stage p t k (h, g)))))
 
-        pub none_faulty : faulty_type p ≡ 0
-        unfolding faulty_type
-        none_faulty =
-            lowest_none p.types _ (λ t h. eq-eqb _ 0 (type_passed t h (λ k g. omega (arith, whole, index_of_stage p t k (h, g)))))
+      pub at_end : index ≡ all_stages p
+      at_end =
+          ⊎_elim (λ (l : index ≤ all_stages p). omega (arith, past)) (λ (l : ¬ (index ≤ all_stages p)). absurd (beyond l))
+          (decided (decides_le index (all_stages p)))
+        where
+          empty : sum_to p.resources (at (entry p.stages (suc (all_stages p)) no_stage).demand) ≡ 0
+          empty = sum_zero _ p.resources (λ i h. (sound.no_more_stages (suc (all_stages p)) (omega arith)).0 i h.0)
 
-        pub at_end : index ≡ all_stages p
-        at_end =
-            ⊎_elim (λ (l : a.stage ≤ 0). omega (arith, whole)) (λ (l : ¬ (a.stage ≤ 0)). absurd (beyond (omega arith)))
-            (decided (decides_le a.stage 0))
-          where
-            empty : sum_to p.resources (at (entry p.stages (suc (all_stages p)) no_stage).demand) ≡ 0
-            empty = sum_zero _ p.resources (λ i h. (sound.no_more_stages (suc (all_stages p)) (omega arith)).0 i h.0)
-
-            beyond : 1 ≤ a.stage → ⊥
-            beyond h =
-                let unit = all_at index (unit_entry p) first.before (suc (all_stages p)) (omega arith, omega (arith, whole)) in
-                true≢false (sym unit ∙ rw empty refl)
+          beyond : (¬ (index ≤ all_stages p)) → ⊥
+          beyond h =
+              let unit = all_at index (unit_entry p) first.before (suc (all_stages p)) (omega arith, omega arith) in
+              true≢false (sym unit ∙ rw empty refl)

@@ -1,6 +1,6 @@
 -- What the parts of the check compute, each under one name: where an index belongs, the first entry that does not demand one
 -- unit, and the ranks from which on stretches go on.
-use Rattle.std.specs.Prelude.{ℕ, suc, ◌+◌, ◌-◌, ◌≤◌, ◌<◌, Bool, true, false, cond, List, ◌≡◌, eqb, get_or}
+use Rattle.std.specs.Prelude.{ℕ, zero, suc, ◌+◌, ◌-◌, ◌≤◌, ◌<◌, Bool, true, false, cond, List, ◌≡◌, eqb, get_or, Option, Some, None, MatchOption}
 use Rattle.model.specs.Limits.{max_types, max_all_stages}
 use Rattle.model.specs.Numbers.{InRange, entry, at, sum_to, all_to}
 use Rattle.model.specs.Plan.{no_stage, length_of, IsStage, stage_of}
@@ -8,11 +8,20 @@ use Rattle.model.specs.declared.Plan.{Plan}
 use Rattle.plan_upstream_stage.specs.Due.{no_rank, lowest_rank}
 use Rattle.plan_upstream.specs.declared.position.Position.{Position}
 
--- the index, counted from 0, is that of the position: a stage, or beyond the last type
+-- the index, counted from 0, is that of the position
 pub record Stands (lengths : List ℕ) (types index : ℕ) (a : Position) : Type 0 where
   pub indexed : index ≡ sum_to a.kind (at lengths) + a.stage
-  pub of_type : a.kind ≤ types
-  pub of_stage : a.kind < types → a.stage < get_or lengths a.kind 0
+  pub of_type : a.kind < types
+  pub of_stage : a.stage < get_or lengths a.kind 0
+
+-- it is that of the position, or at or beyond the end of all stages
+abbrev pub Belongs : List ℕ → ℕ → ℕ → Option Position → Type 0
+Belongs lengths types index r = MatchOption r (sum_to types (at lengths) ≤ index) (Stands lengths types index)
+
+-- a number of 1 on as a place; 0 is none
+abbrev pub place : ℕ → Option ℕ
+place zero = None
+place (suc n) = Some (suc n)
 
 -- entry i of the stages, counted from 1, demands one unit in all
 abbrev pub unit_entry : Plan → ℕ → Bool

@@ -7,16 +7,15 @@ ghost use Rattle.model.specs.Questions.{answer_of};
 ghost use Rattle.model.specs.Soundness.{Sound};
 ghost use Rattle.model.specs.Upstream.{check_questions, check};
 ghost use Rattle.model.specs.declared.Check.TheVariants.{Meets};
-ghost use Rattle.plan_bytes.specs.Over.{plan_over};
+ghost use Rattle.plan_bytes.specs.Over.{plan_of};
 ghost use Rattle.plan_upstream.specs.CheckInternals.{LowestRanks};
 
 use crate::position::position_of;
 use crate::ranks::closed;
 use crate::rows::{faulty_bound, faulty_row};
 use crate::units::units_of;
-use arithmetic::u8_to_usize;
 use model::Check;
-use plan_bytes::Frame;
+use plan_bytes::LentPlan;
 use plan_soundness::is_sound;
 
 mod position;
@@ -25,51 +24,51 @@ mod rows;
 mod units;
 
 // Questions 24 and 25. The plan's stages end at the index `end`, and have these lowest ranks.
-fn check_rows(frame: Frame, stages: &[u8], end: usize, lowest: [u16; 128]) -> Check
-    requires { let p = plan_over frame stages.now in Sound p × (end ≡ all_stages p) × LowestRanks p end lowest }
-    ensures { result ≡ answer_of Meets (drop 4 (check_questions (plan_over frame stages.now))) }
+fn check_rows(plan: LentPlan<'_>, end: usize, lowest: [u16; 128]) -> Check
+    requires { let p = plan_of plan in Sound p × (end ≡ all_stages p) × LowestRanks p end lowest }
+    ensures { result ≡ answer_of Meets (drop 4 (check_questions (plan_of plan.entry))) }
 {
-    let ranks = closed(lowest, &frame.lengths, u8_to_usize(frame.types));
-    let weight_fault = faulty_row(frame, stages, end, ranks);
-    let bound_fault = faulty_bound(&frame.bound, &frame.capacity, u8_to_usize(frame.rows));
-    if weight_fault != 0 {
-        return Check::WrongWeight(weight_fault);
+    let ranks = closed(lowest, &plan.frame.lengths, usize::from(plan.frame.types));
+    if let Some(row) = faulty_row(plan, end, &ranks) {
+        return Check::WrongWeight(row);
     }
-    if bound_fault != 0 {
-        return Check::WrongBound(bound_fault);
+    match faulty_bound(
+        &plan.frame.bound,
+        &plan.frame.capacity,
+        usize::from(plan.frame.rows),
+    ) {
+        Some(row) => Check::WrongBound(row),
+        None => Check::Meets,
     }
-    Check::Meets
 }
 
 // Questions 22 to 25.
-fn check_stages(frame: Frame, stages: &[u8]) -> Check
-    requires { Sound (plan_over frame stages.now) }
-    ensures { result ≡ answer_of Meets (drop 2 (check_questions (plan_over frame stages.now))) }
+fn check_stages(plan: LentPlan<'_>) -> Check
+    requires { Sound (plan_of plan) }
+    ensures { result ≡ answer_of Meets (drop 2 (check_questions (plan_of plan.entry))) }
 {
-    let units = units_of(frame, stages);
-    let types = u8_to_usize(frame.types);
-    let at = position_of(units.other, &frame.lengths, types);
-    if at.kind < types {
+    let units = units_of(plan);
+    let types = usize::from(plan.frame.types);
+    if let Some(at) = position_of(units.other, &plan.frame.lengths, types) {
         let kind = (at.kind + 1) as u32;
         let stage = (at.stage + 1) as u32;
         return Check::NotOneUnit { kind, stage };
     }
-    if frame.rows != frame.resources {
+    if plan.frame.rows != plan.frame.resources {
         return Check::RowCount;
     }
-    let ranks = units.ranks;
-    check_rows(frame, stages, units.other, ranks)
+    check_rows(plan, units.other, units.ranks)
 }
 
 // The upstream check: the answer with its two places. A sound plan ranks every resource or none, so the first tells.
-pub fn upstream_check(frame: Frame, stages: &[u8]) -> Check
-    ensures { result ≡ check (plan_over frame stages.now) }
+pub fn upstream_check(plan: LentPlan<'_>) -> Check
+    ensures { result ≡ check (plan_of plan.entry) }
 {
-    if !is_sound(frame, stages) {
+    if !is_sound(plan) {
         return Check::UnsoundPlan;
     }
-    if frame.rank[0] < 1 {
+    if plan.frame.rank[0] < 1 {
         return Check::NoRank;
     }
-    check_stages(frame, stages)
+    check_stages(plan)
 }

@@ -6,19 +6,15 @@ ghost use Rattle.std.specs.Prelude.{◌≡◌, min, eqb};
 ghost use Rattle.model.specs.Numbers.{at, sum_to};
 ghost use Rattle.plan_upstream_stage.specs.Due.{rank_if, lowest_rank, due_by};
 
-use arithmetic::{at_most, u8_to_u16, u8_to_usize};
-
 // Is one unit demanded in all? Sums of 16 bits go eight at a time.
 #[tactic(auto, using(crate::proofs::Beyond::units_seen))]
 pub fn one_unit(demand: &[u8], resources: u8) -> bool
     ensures { result ≡ eqb (sum_to resources (at demand.now)) 1 }
 {
-    let n = at_most(u8_to_usize(resources), demand.len());
+    let n = usize::from(resources).min(demand.len());
     let mut sum: u16 = 0;
-    let mut i = 0;
-    while i < n {
-        sum += u8_to_u16(demand[i]);
-        i += 1;
+    for i in 0..n {
+        sum += u16::from(demand[i]);
     }
     sum == 1
 }
@@ -27,13 +23,7 @@ pub fn one_unit(demand: &[u8], resources: u8) -> bool
 fn rank_if(demand: u8, rank: u8) -> u16
     ensures { result ≡ rank_if demand rank }
 {
-    if 1 <= demand { u8_to_u16(rank) } else { 256 }
-}
-
-fn lower(a: u16, b: u16) -> u16
-    ensures { result ≡ min a b }
-{
-    if a < b { a } else { b }
+    if 1 <= demand { u16::from(rank) } else { 256 }
 }
 
 // The lowest rank of the resources that are demanded, of those that can have a rank; above every rank where none is.
@@ -41,12 +31,10 @@ fn lower(a: u16, b: u16) -> u16
 pub fn lowest_rank<'a>(demand: &'a [u8], rank: &'a [u8; 32], resources: u8) -> u16
     ensures { result ≡ lowest_rank (min resources 32) demand.now rank.now }
 {
-    let n = at_most(at_most(u8_to_usize(resources), 32), demand.len());
-    let mut lowest = 256;
-    let mut i = 0;
-    while i < n {
-        lowest = lower(lowest, rank_if(demand[i], rank[i]));
-        i += 1;
+    let n = usize::from(resources).min(rank.len()).min(demand.len());
+    let mut lowest: u16 = 256;
+    for i in 0..n {
+        lowest = lowest.min(rank_if(demand[i], rank[i]));
     }
     lowest
 }

@@ -2,14 +2,14 @@
 use Prim.Native.Nat.{ℕ, ◌+◌, ◌-◌, ◌<◌}
 use mathlib.Core.Bool.{and-false}
 use mathlib.Core.List.{List, ◌∷◌}
-use mathlib.Core.Path.{◌≡◌, refl, sym, ap, ◌∙◌}
+use mathlib.Core.Path.{◌≡◌, refl, ap, ◌∙◌}
 use lib.ListN.{length, take, drop, set}
 use borrow.Author.Tests.{lt-ltb}
 use Rattle.byte_slices.specs.Bytes.{slice, index_of}
 use Rattle.plan_text.specs.Lines.{tab, columns, fields_in}
 use Rattle.plan_text.specs.RecordTests.{is_numeral, fields_on}
-use Rattle.plan_text.specs.ReaderInternals.{no_value, value_read}
-use Rattle.plan_text.specs.declared.Fields.{Fields}
+use Rattle.plan_text.specs.ReaderInternals.{value_read, fields_given}
+use Rattle.std.specs.Prelude.{Some, None}
 use Rattle.plan_text.proofs.Split.{parts_after, after_separator, split_from}
 use Rattle.read_fields.proofs.Digits.{read_none, read_some}
 
@@ -29,16 +29,13 @@ module _ (line : List ℕ) where
       → fields_after line at ≡ take (end - (at + 1)) (drop (at + 1) line) ∷ fields_after line end
   next_tab at end h e = after_separator tab line at h ∙ split_from tab line (at + 1) end e
 
--- a field f that is read as x, after n of them
-module _ (n x : ℕ) (xs f : List ℕ) (fs : List (List ℕ)) (e : x ≡ value_read f) where
-  abbrev too_many : Fields
-  too_many = record { count = 5; numbers = xs }
+-- a field f, read behind n others
+module _ (n : ℕ) (xs f : List ℕ) (fs : List (List ℕ)) where
+  pub field_bad : value_read f ≡ None → fields_given (fields_on n xs (f ∷ fs)) ≡ None
+  field_bad e = rw (read_none f e) refl
 
-  pub field_bad : x ≡ no_value → fields_on n xs (f ∷ fs) ≡ too_many
-  field_bad k = rw (read_none f (sym e ∙ k)) refl
-
-  pub field_fifth : n ≡ 4 → fields_on n xs (f ∷ fs) ≡ too_many
+  pub field_fifth : n ≡ 4 → fields_given (fields_on n xs (f ∷ fs)) ≡ None
   field_fifth k = rw (k, and-false (is_numeral f)) refl
 
-  pub field_next : (¬ (x ≡ no_value)) → n < 4 → fields_on n xs (f ∷ fs) ≡ fields_on (n + 1) (set xs n x) fs
-  field_next k h = let r = read_some f (λ z. k (e ∙ z)) in rw (e ∙ r.1, r.0, lt-ltb n 4 h) refl
+  pub field_next : (x : ℕ) → value_read f ≡ Some x → n < 4 → fields_on n xs (f ∷ fs) ≡ fields_on (n + 1) (set xs n x) fs
+  field_next x e h = let r = read_some f x e in rw (r.1, r.0, lt-ltb n 4 h) refl

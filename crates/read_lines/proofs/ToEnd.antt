@@ -1,25 +1,40 @@
 -- A reader that is read to the end has read exactly the lines of its text, those that the plan text is made of: each reading takes
 -- the first of the lines that are left, and leaves less of the text.
-use Prim.Native.Nat.{ℕ, zero, suc, ◌-◌, ◌≤◌, ◌<◌}
+use Prim.Native.Nat.{ℕ, zero, suc, ◌+◌, ◌-◌, ◌≤◌, ◌<◌}
 use native.Mathlib.Omega.{arith}
-use mathlib.Core.Bool.{false}
+use mathlib.Core.Bool.{Bool, true, false, cond}
 use mathlib.Core.List.{List, ◌∷◌}
 use mathlib.Core.Logic.{⊎_elim}
 use mathlib.Core.Path.{◌≡◌, refl, sym, ap, ◌∙◌}
 use denote.Ref.{Bor}
-use lib.ListN.{length, drop}
+use lib.Dec.{ltb}
+use lib.ListN.{length, take, drop}
+use borrow.Author.Tests.{ltb-true}
+use Rattle.std.specs.Prelude.{None}
 use Rattle.model.proofs.Decide.{decided, decides_lt}
 use Rattle.plan_text.specs.Lines.{Line, lines_of}
+use Rattle.plan_text.specs.LineReading.{span_from}
 use Rattle.plan_text.specs.declared.LineSpan.{LineSpan}
-use Rattle.plan_text.proofs.LineByLine.{no_line}
+use Rattle.plan_text.proofs.LineByLine.{end_within, no_line}
 use Rattle.plan_text.proofs.LineReading.{span_over, span_there, line_read, next_further, over_told, left_told}
-use Rattle.read_lines.specs.LineReads.{at_start, read_next, read_on, ReadToEnd}
+use Rattle.read_lines.specs.LineReads.{at_start, read_next, read_on, Reads, ReadToEnd}
 use Rattle.read_lines.specs.LineReads.ReadToEnd.{over, line}
 use Rattle.read_lines.specs.declared.LineReader.{LineReader}
 
 -- the lines that are left to a reader
 abbrev left : LineReader → List Line
 left r = lines_of (drop r.at r.text.now)
+
+-- the next line begins within the text
+pub next_within : (text : List ℕ) (at : ℕ) → at < length text → (span_from text at).next ≤ length text
+next_within text at there = rw (span_there text at _ refl there) (step _ (end_within text at _ refl there).1)
+  where
+    step : (end : ℕ) → end ≤ length text → cond (ltb end (length text)) (end + 1) end ≤ length text
+    step end within = go (ltb end (length text)) refl
+      where
+        go : (b : Bool) → ltb end (length text) ≡ b → cond b (end + 1) end ≤ length text
+        go true e = omega (arith, ltb-true end (length text) e)
+        go false e = within
 
 -- where a line was read, less of the text is left
 pub less_left : (r : LineReader) → (read_next r).over ≡ false → length r.text.now - (read_on r).at < length r.text.now - r.at
@@ -28,6 +43,21 @@ less_left r e =
     let there = left_told text r.at e in
     let further = next_further text r.at _ refl there in
     omega arith
+
+-- at the end of the text no line is read, and the reader stays
+pub reads_none : (r : LineReader) → (read_next r).over ≡ true → Reads r None r
+reads_none r e =
+    let text = r.text.now in
+    let out = over_told text r.at e in
+    let none : r.at - r.at ≡ 0 = omega arith in
+    let span = span_over text r.at out in
+    record {
+      said =
+          ap (λ (n : ℕ). record { line = record { bytes = take n (drop r.at text); ended = false }; over = true }) (sym none)
+          ∙ sym (ap (λ (p : LineSpan). record { line = record { bytes = take (p.end - r.at) (drop r.at text); ended = p.ended }; over = p.over }) span);
+      part = tt;
+      moved = ap (λ (p : LineSpan). record { text = r.text; at = p.next }) (sym span);
+    }
 
 -- whoever has read to the end has read the lines that were left, and no others
 pub read_left : {r : LineReader} {ls : List Line} → ReadToEnd r ls → ls ≡ left r

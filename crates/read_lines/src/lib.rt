@@ -4,23 +4,20 @@
 ghost use Rattle.std.specs.Prelude.{◌≡◌};
 ghost use Rattle.plan_text.specs.LineReading.{span_from};
 ghost use Rattle.plan_text.specs.TextParts.{IsPart};
-ghost use Rattle.read_lines.specs.LineReads.{at_start, Reads};
+ghost use Rattle.read_lines.specs.LineReads.{at_start, Reads, lines_at_most};
 
-use arithmetic::at_most;
 use byte_slices::find;
 use plan_text::LineSpan;
 
-// Where the line ends that begins at an offset: at its LF or, without one, at the end of the text.
+// Where the line ends that begins at an offset: at its LF or, without one, at the end of the text; past the end at the offset itself.
 pub fn line_end(text: &[u8], at: usize) -> usize
     ensures { result ≡ (span_from text.now at).end }
 {
-    if text.len() <= at {
-        return at;
-    }
     find(text, at, text.len(), b'\n')
 }
 
-// All that is to be known of that line.
+// All that is to be known of that line. It says `over` for an Option, as the definition `span_from` does, which says where the reading stands
+// past the end too.
 pub fn line_at(text: &[u8], at: usize) -> LineSpan
     ensures { result ≡ span_from text.now at }
 {
@@ -39,8 +36,8 @@ pub fn line_at(text: &[u8], at: usize) -> LineSpan
 pub fn part_of(text: &[u8], from: usize, to: usize) -> &[u8]
     ensures { IsPart text.entry from to result }
 {
-    let end = at_most(to, text.len());
-    let start = at_most(from, end);
+    let end = to.min(text.len());
+    let start = from.min(end);
     &text[start..end]
 }
 
@@ -51,12 +48,11 @@ pub struct LineReader<'a> {
     pub at: usize,
 }
 
-// A line without its LF, as a part of the text; whether it had one; and whether the text was at its end, so that there is no line.
+// A line without its LF, as a part of the text, and whether it had one.
 #[derive(Clone, Copy)]
 pub struct TextLine<'a> {
     pub bytes: &'a [u8],
     pub ended: bool,
-    pub over: bool,
 }
 
 impl<'a> LineReader<'a> {
@@ -65,20 +61,27 @@ impl<'a> LineReader<'a> {
     {
         LineReader { text, at: 0 }
     }
+}
 
-    // The next line. At the end of the text there is none, and the reader stays there.
-    pub fn next<'s>(&'s mut self) -> TextLine<'a>
-        ensures { Reads self.old result self.new }
-    {
+// The lines in turn. At the end of the text there is none, and the reader stays there.
+impl<'a> Iterator for LineReader<'a> {
+    type Item = TextLine<'a>;
+
+    ghost next_gives = { Reads };
+
+    ghost remaining = { lines_at_most };
+
+    fn next(&mut self) -> Option<TextLine<'a>> {
         let text = self.text;
         let at = self.at;
         let span = line_at(text, at);
-        let bytes = part_of(text, at, span.end);
-        self.at = span.next;
-        TextLine {
-            bytes,
-            ended: span.ended,
-            over: span.over,
+        if span.over {
+            return None;
         }
+        self.at = span.next;
+        Some(TextLine {
+            bytes: part_of(text, at, span.end),
+            ended: span.ended,
+        })
     }
 }

@@ -3,55 +3,46 @@
 use Prim.Native.Nat.{ℕ, zero, suc, ◌+◌, ◌-◌, ◌≤◌, ◌<◌}
 use native.Mathlib.Omega.{arith}
 use mathlib.Core.Bool.{Bool, true, false, cond, false≢true}
-use mathlib.Core.List.{List, [], ◌∷◌}
 use mathlib.Core.Logic.{⊎_elim}
+use mathlib.Core.List.{List, [], ◌∷◌}
 use mathlib.Core.Path.{◌≡◌, refl, sym, ap, subst, ◌∙◌}
-use lib.Dec.{eqb, ltb}
-use lib.ListN.{length, take, drop, replicate, length-set}
-use Rattle.byte_slices.specs.Bytes.{slice, index_of}
+use lib.Dec.{ltb}
+use lib.ListN.{length, drop, replicate, length-set, length-drop}
+use Rattle.std.proofs.lemmas.List.{length-take}
+use borrow.Author.Tests.{ltb-false}
+use Rattle.std.specs.Prelude.{Some, None, Ok, Err}
 use Rattle.model.specs.Limits.{max_resources, max_types, max_all_stages}
 use Rattle.model.specs.Numbers.{at}
 use Rattle.model.specs.Plan.{empty_plan}
 use Rattle.model.proofs.Lists.{replicated}
-use Rattle.plan_text.specs.Lines.{Line, line_end, lines_of}
+use Rattle.plan_text.specs.Lines.{Line, lines_of}
+use Rattle.plan_text.specs.LineReading.{first_span, span_from, line_from}
 use Rattle.plan_text.specs.Records.{record_in}
-use Rattle.plan_text.specs.RecordTests.{Known, known_of, in_ranges}
-use Rattle.plan_text.specs.Draft.{Draft, empty_draft, draft_after, held_in}
-use Rattle.plan_text.specs.Reading.{refused, within_total, read_from}
+use Rattle.plan_text.specs.RecordTests.{known_of}
+use Rattle.plan_text.specs.Draft.{Draft, empty_draft, draft_after}
+use Rattle.plan_text.specs.Reading.{refused, read_from}
 use Rattle.plan_text.specs.TextQuestions.{is_accepted}
-use Rattle.plan_text.specs.ReaderInternals.{form_answer, record_answer}
-use Rattle.plan_text.specs.declared.Record.{Record}
+use Rattle.plan_text.specs.ReaderInternals.{line_answer, form_answer, narrowed}
 use Rattle.plan_text.specs.declared.TextAnswer.{TextAnswer}
-use Rattle.plan_text.specs.declared.TextAnswer.TheVariants.{Accepted, OutOfRange, Repeated}
 use Rattle.plan_text.proofs.RecordLists.{entries_length}
-use Rattle.plan_text.proofs.LineByLine.{end_within, line_length, line_here, no_line}
-use Rattle.plan_text.proofs.ReaderSteps.{true_or_false, FewStages, few_after, small_after, form_refused, record_refused, line_read}
+use Rattle.plan_text.proofs.LineByLine.{no_line}
+use Rattle.plan_text.proofs.LineReading.{span_there, next_further, over_told, left_told}
+use Rattle.plan_text.proofs.LineReading as reading
+use Rattle.plan_text.proofs.ReaderSteps.{FewStages, few_after, small_after, line_refused, line_read, form_decides, record_decides, record_met, narrowed_same, true_or_false}
+use Rattle.read_lines.specs.LineReads.{Read, Reads}
+use Rattle.read_lines.specs.declared.LineReader.{LineReader}
+use Rattle.read_lines.specs.declared.TextLine.{TextLine}
+use Rattle.read_lines.proofs.ToEnd.{next_within}
+use Rattle.read_plan.proofs.Line.{Handed, refusal_told, acceptance_told}
 
 pub record ReadingOn (text : List ℕ) (d : Draft) (line from : ℕ) : Type 0 where
   pub left : read_from 0 0 empty_draft (lines_of text) ≡ read_from line from d (lines_of (drop from text))
   pub counted : line ≤ from
-  pub within : from ≤ length text + 1
+  pub within : from ≤ length text
   pub few : FewStages d.plan.lengths
   pub small : (i : ℕ) → at d.plan.capacity i ≤ 255
   pub types : length d.plan.lengths ≡ max_types
   pub stages : length d.plan.stages ≡ max_all_stages
-
--- the answer to questions 5 and 6 looks at what is held only where the numbers are in range
-module _ (k : Known) (lengths : List ℕ) (r : Record) where
-  pub same_answer : (held here : ℕ) → (in_ranges k r ≡ true → held ≡ here) → record_answer k held lengths r ≡ record_answer k here lengths r
-  same_answer held here same =
-      ⊎_elim (λ (e : in_ranges k r ≡ true). ap (λ n. record_answer k n lengths r) (same e)) (λ (e : in_ranges k r ≡ false). rw e refl)
-      (true_or_false (in_ranges k r))
-
-  -- where it is the acceptance, the numbers and the total are in range
-  pub record_met : (held : ℕ) → is_accepted (record_answer k held lengths r) ≡ true → (in_ranges k r ≡ true) × (within_total lengths r ≡ true)
-  record_met held = go (in_ranges k r) (eqb held 0) (within_total lengths r)
-    where
-      go : (a b c : Bool) → is_accepted (cond a (cond b (cond c Accepted OutOfRange) Repeated) OutOfRange) ≡ true → (a ≡ true) × (c ≡ true)
-      go true true true e = (refl, refl)
-      go true true false e = absurd (false≢true e)
-      go true false c e = absurd (false≢true e)
-      go false b c e = absurd (false≢true e)
 
 pub reading_start : (text : List ℕ) → ReadingOn text empty_draft 0 0
 unfolding empty_draft empty_plan
@@ -64,49 +55,111 @@ reading_start text =
 
 module _ (text : List ℕ) (d : Draft) (line from : ℕ) (going : ReadingOn text d line from) where
   -- after the last line
-  pub read_out : length text ≤ from → read_from line from d [] ≡ read_from 0 0 empty_draft (lines_of text)
+  pub read_out : length text ≤ from → read_from line 0 d [] ≡ read_from 0 0 empty_draft (lines_of text)
   read_out h = sym (going.left ∙ ap (read_from line from d) (no_line text from h))
 
   -- the line that begins here
-  module _ (end : ℕ) (there : from < length text) (found : end ≡ from + index_of line_end (slice from (length text) text)) where
-    abbrev pub line_at : Line
-    line_at = record { bytes = take (end - from) (drop from text); ended = ltb end (length text) }
+  module _ (there : from < length text) where
+    abbrev l : Line
+    l = line_from text from
 
-    abbrev pub record_at : Record
-    record_at = record_in line_at.bytes
+    abbrev to : ℕ
+    to = from + length l.bytes
 
-    abbrev pub answer_at : TextAnswer
-    answer_at = record_answer (known_of d.plan) (held_in d record_at) d.plan.lengths record_at
+    abbrev next : ℕ
+    next = (span_from text from).next
 
-    here : read_from 0 0 empty_draft (lines_of text) ≡ read_from line from d (line_at ∷ lines_of (drop (end + 1) text))
-    here = going.left ∙ ap (read_from line from d) (line_here text from end found there)
+    here : read_from 0 0 empty_draft (lines_of text) ≡ read_from line from d (l ∷ lines_of (drop next text))
+    here = going.left ∙ ap (read_from line from d) (reading.line_read text from _ refl there)
 
-    ends : from + length line_at.bytes ≡ end
-    ends = let w = end_within text from end found there in omega (arith, line_length text from end found there, w)
+    pub refuses : is_accepted (line_answer d l) ≡ false → refused (line_answer d l) (line + 1) from to ≡ read_from 0 0 empty_draft (lines_of text)
+    refuses e = sym (here ∙ line_refused line from d l (lines_of (drop next text)) e)
 
-    pub form_refuses : is_accepted (form_answer d.section line_at) ≡ false
-        → refused (form_answer d.section line_at) (line + 1) from end ≡ read_from 0 0 empty_draft (lines_of text)
-    form_refuses e =
-        sym (here ∙ form_refused line from d line_at (lines_of (drop (end + 1) text)) e ∙ ap (refused (form_answer d.section line_at) (line + 1) from) ends)
+    next_is : next ≡ cond l.ended (to + 1) to
+    unfolding span_from
+    next_is = ap (λ (ls : List Line). (first_span from ls).next) (reading.line_read text from _ refl there)
 
-    module _ (formed : is_accepted (form_answer d.section line_at) ≡ true) where
-      pub record_refuses : is_accepted answer_at ≡ false → refused answer_at (line + 1) from end ≡ read_from 0 0 empty_draft (lines_of text)
-      record_refuses e =
-          sym (here ∙ record_refused line from d line_at (lines_of (drop (end + 1) text)) formed e ∙ ap (refused answer_at (line + 1) from) ends)
+    out : (span_from text from).ended ≡ false → length text ≤ (span_from text from).next
+    out = rw (span_there text from _ refl there) (step _)
+      where
+        step : (end : ℕ) → ltb end (length text) ≡ false → length text ≤ cond (ltb end (length text)) (end + 1) end
+        step end e = rw e (ltb-false end (length text) e)
 
-      pub goes_on : is_accepted answer_at ≡ true → (next : Draft) → next ≡ draft_after d record_at → ReadingOn text next (line + 1) (end + 1)
-      unfolding draft_after
-      goes_on e next made =
-          let met = record_met (known_of d.plan) d.plan.lengths record_at (held_in d record_at) e in
-          let on : ReadingOn text (draft_after d record_at) (line + 1) (end + 1) =
-          record {
-            left = here ∙ line_read line from d line_at (lines_of (drop (end + 1) text)) formed e
-                ∙ ap (λ i. read_from (line + 1) (i + 1) (draft_after d record_at) (lines_of (drop (end + 1) text))) ends;
-            counted = omega (arith, going.counted, end_within text from end found there);
-            within = omega (arith, end_within text from end found there);
-            few = few_after (known_of d.plan) record_at met.0 going.few met.1;
-            small = small_after (known_of d.plan) record_at met.0 going.small;
-            types = entries_length 3 d.plan.lengths record_at ∙ going.types;
-            stages = length-set d.plan.stages _ _ ∙ going.stages;
-          } in
-          subst (λ x. ReadingOn text x (line + 1) (end + 1)) (sym made) on
+    -- where the line has no LF no other follows, so it does not matter where that would begin
+    behind : (e : Draft) → read_from (line + 1) (to + 1) e (lines_of (drop next text)) ≡ read_from (line + 1) next e (lines_of (drop next text))
+    behind e = go l.ended refl
+      where
+        go : (b : Bool) → l.ended ≡ b → read_from (line + 1) (to + 1) e (lines_of (drop next text)) ≡ read_from (line + 1) next e (lines_of (drop next text))
+        go true k = ap (λ (i : ℕ). read_from (line + 1) i e (lines_of (drop next text))) (sym (next_is ∙ ap (λ (b : Bool). cond b (to + 1) to) k))
+        go false k = rw (no_line text next (out k)) refl
+
+    pub goes_on : is_accepted (line_answer d l) ≡ true → (after : Draft) → after ≡ draft_after d (narrowed (record_in l.bytes)) → ReadingOn text after (line + 1) next
+    unfolding draft_after
+    goes_on e after made =
+        let r = record_in l.bytes in
+        let formed : is_accepted (form_answer d.section l) ≡ true =
+        ⊎_elim (λ (k : is_accepted (form_answer d.section l) ≡ true). k)
+        (λ (k : is_accepted (form_answer d.section l) ≡ false). absurd (false≢true (sym k ∙ sym (ap is_accepted (form_decides d l k)) ∙ e)))
+        (true_or_false (is_accepted (form_answer d.section l))) in
+        let met = record_met d r (sym (ap is_accepted (record_decides d l formed)) ∙ e) in
+        let same : after ≡ draft_after d r = made ∙ ap (draft_after d) (narrowed_same (known_of d.plan) going.small r met.0) in
+        let on : ReadingOn text (draft_after d r) (line + 1) next =
+        record {
+          left = here ∙ line_read line from d l (lines_of (drop next text)) e ∙ behind (draft_after d r);
+          counted = omega (arith, going.counted, next_further text from _ refl there);
+          within = next_within text from there;
+          few = few_after (known_of d.plan) r met.0 going.few met.1;
+          small = small_after (known_of d.plan) r met.0 going.small;
+          types = entries_length 3 d.plan.lengths r ∙ going.types;
+          stages = length-set d.plan.stages _ _ ∙ going.stages;
+        } in
+        subst (λ (x : Draft). ReadingOn text x (line + 1) next) (sym same) on
+
+-- a line that the reader has read
+module _ (r after : LineReader) (t : TextLine) (read : Reads r (Some t) after) (d : Draft) (line : ℕ) (going : ReadingOn r.text.now d line r.at) where
+  abbrev pub said : Line
+  said = record { bytes = t.bytes.now; ended = t.ended }
+
+  told : said ≡ line_from r.text.now r.at
+  told = ap (λ (x : Read). x.line) read.said
+
+  there : r.at < length r.text.now
+  there = left_told r.text.now r.at (sym (ap (λ (x : Read). x.over) read.said))
+
+  pub still : after.text.now ≡ r.text.now
+  still = ap (λ (x : LineReader). x.text.now) read.moved
+
+  pub short : line + 1 ≤ length r.text.now
+  short = omega (arith, going.counted, there)
+
+  pub ends_within : r.at + length t.bytes.now ≤ length r.text.now
+  ends_within =
+      let text = r.text.now in
+      omega (
+        arith,
+        there,
+        ap (λ (x : Line). length x.bytes) told,
+        length-take ((span_from text r.at).end - r.at) (drop r.at text),
+        length-drop r.at text,
+      )
+
+  pub line_refuses : (a : TextAnswer) → Handed (Err a) (line_answer d said)
+      → refused a (line + 1) r.at (r.at + length t.bytes.now) ≡ read_from 0 0 empty_draft (lines_of r.text.now)
+  line_refuses a e =
+      let k = refusal_told (tt {0}) (line_answer d said) a e in
+      ap (λ (x : TextAnswer). refused x (line + 1) r.at (r.at + length t.bytes.now)) (k.0 ∙ ap (line_answer d) told)
+      ∙ ap (λ (x : Line). refused (line_answer d (line_from r.text.now r.at)) (line + 1) r.at (r.at + length x.bytes)) told
+      ∙ refuses r.text.now d line r.at going there (sym (ap (λ (x : Line). is_accepted (line_answer d x)) told) ∙ k.1)
+
+  pub line_goes_on : Handed (Ok (tt {0})) (line_answer d said) → (next : Draft) → next ≡ draft_after d (narrowed (record_in t.bytes.now))
+      → ReadingOn after.text.now next (line + 1) after.at
+  line_goes_on e next made =
+      let on =
+      goes_on r.text.now d line r.at going there
+      (sym (ap (λ (x : Line). is_accepted (line_answer d x)) told) ∙ (acceptance_told (tt {0}) (line_answer d said) (tt {0}) e).1)
+      next (made ∙ ap (λ (x : Line). draft_after d (narrowed (record_in x.bytes))) told) in
+      subst (λ (x : LineReader). ReadingOn x.text.now next (line + 1) x.at) (sym read.moved) on
+
+-- where none is read
+pub text_out : (r after : LineReader) → Reads r None after → length r.text.now ≤ r.at
+text_out r after read = over_told r.text.now r.at (sym (ap (λ (x : Read). x.over) read.said))

@@ -1,4 +1,3 @@
--- What holds while a text is read, and what a turn of the reader's loop does.
+-- What a line is answered, and what holds while a text is read.
+pub mod Line
 pub mod Going
-pub mod StageLent
-pub mod Turn

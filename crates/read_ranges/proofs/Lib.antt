@@ -1,2 +1,2 @@
--- The laws behind the test of the ranges.
+-- The test of a record's fields, one after the other.
 pub mod InRanges

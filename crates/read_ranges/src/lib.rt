@@ -1,32 +1,51 @@
 // The ranges of a record's numbers: one table of the seven sections, and the test that reads it.
 #![tactic(auto)]
 
-ghost use Rattle.std.specs.Prelude.{◌≡◌, length};
+ghost use Rattle.std.specs.Prelude.{◌≡◌, length, map};
 ghost use Rattle.plan_text.specs.Records.{layout_of};
-ghost use Rattle.plan_text.specs.RecordTests.{in_ranges};
-ghost use Rattle.plan_text.specs.ReaderInternals.{known_with};
-ghost use Rattle.read_ranges.specs.Table.{row_of, highest_by};
+ghost use Rattle.plan_text.specs.RecordTests.{lowest_in, highest_in, in_ranges};
+ghost use Rattle.read_ranges.specs.Table.{field_said, known_in};
 
+use plan_bytes::Frame;
 use plan_entry::entry_of;
-use plan_text::{Counts, Record};
+use plan_text::Record;
 
-// For each section the count of its fields, and then three numbers for each field: what it is, its lowest and its highest.
-// What it is: 0 a number of this range, 1 a resource, 2 a type, 3 a row, 4 a stage of the type before, 5 units of the resource
-// before. The plan has the highest of 1 to 5, and the table a 0.
-const LAYOUTS: [[u32; 13]; 7] = [
-    [3, 0, 1, 32, 0, 1, 16, 0, 0, 32, 0, 0, 0], // C
-    [2, 1, 1, 0, 0, 1, 255, 0, 0, 0, 0, 0, 0], // R
-    [2, 2, 1, 0, 0, 1, 32, 0, 0, 0, 0, 0, 0], // T
-    [4, 2, 1, 0, 4, 1, 0, 1, 1, 0, 5, 1, 0], // S
-    [2, 3, 1, 0, 0, 0, 65535, 0, 0, 0, 0, 0, 0], // B
-    [4, 3, 1, 0, 2, 1, 0, 4, 1, 0, 0, 1, 255], // A
-    [2, 1, 1, 0, 0, 1, 255, 0, 0, 0, 0, 0, 0], // K
+// What a field's number is: one of a fixed range; the number of a resource, a type or a row of the plan, or of a stage of the type in the
+// field before; or units of the resource in the field before. All but the fixed range are counted from 1.
+#[derive(Clone, Copy)]
+pub enum Field {
+    Between(u32, u32),
+    Resource,
+    Kind,
+    Row,
+    Stage,
+    Units,
+}
+
+// The fields of each record: one table of the seven sections.
+const LAYOUTS: [&[Field]; 7] = [
+    &[
+        Field::Between(1, 32),
+        Field::Between(1, 16),
+        Field::Between(0, 32),
+    ], // C
+    &[Field::Resource, Field::Between(1, 255)], // R
+    &[Field::Kind, Field::Between(1, 32)], // T
+    &[Field::Kind, Field::Stage, Field::Resource, Field::Units], // S
+    &[Field::Row, Field::Between(0, 65535)], // B
+    &[
+        Field::Row,
+        Field::Kind,
+        Field::Stage,
+        Field::Between(1, 255),
+    ], // A
+    &[Field::Resource, Field::Between(1, 255)], // K
 ];
 
-// A section's row of the table; zeros where there is no such section. A row for each section by its own index: at an index that is not
-// known the compiler lays the whole table down anew.
-fn layout_row(section: u32) -> [u32; 13]
-    ensures { result ≡ row_of (layout_of section) }
+// The fields of the records of a section; none where there is no such section. A row for each section by its own index: at an index that is not
+// known the compiler lays a whole table down anew.
+pub fn layout(section: u32) -> &'static [Field]
+    ensures { map field_said result.now ≡ layout_of section }
 {
     match section {
         1 => LAYOUTS[0],
@@ -36,7 +55,7 @@ fn layout_row(section: u32) -> [u32; 13]
         5 => LAYOUTS[4],
         6 => LAYOUTS[5],
         7 => LAYOUTS[6],
-        _ => [0; 13],
+        _ => &[],
     }
 }
 
@@ -44,60 +63,47 @@ fn layout_row(section: u32) -> [u32; 13]
 pub fn field_count(section: u32) -> usize
     ensures { result ≡ length (layout_of section) }
 {
-    let row = layout_row(section);
-    row[0] as usize
+    layout(section).len()
 }
 
-// The highest number of a field by what it is, which goes by the plan, and by the number before it, for 1 to 5.
-fn highest_by<'a>(
-    code: u32,
-    fixed: u32,
-    before: u32,
-    counts: Counts,
-    capacity: &'a [u8; 32],
-    lengths: &'a [u8; 16],
-) -> u32
-    ensures { result ≡ highest_by (known_with counts capacity.now lengths.now) before code fixed }
-{
-    match code {
-        1 => counts.resources as u32,
-        2 => counts.types as u32,
-        3 => counts.rows as u32,
-        4 => entry_of(lengths, before),
-        5 => entry_of(capacity, before),
-        _ => fixed,
+impl Field {
+    fn lowest(self) -> u32
+        ensures { result ≡ lowest_in (field_said self) }
+    {
+        match self {
+            Field::Between(low, _) => low,
+            _ => 1,
+        }
+    }
+
+    // It goes by the plan so far, and by the number before it.
+    fn highest(self, before: u32, frame: &Frame) -> u32
+        ensures { result ≡ highest_in (known_in frame.now) before (field_said self) }
+    {
+        match self {
+            Field::Between(_, high) => high,
+            Field::Resource => u32::from(frame.resources),
+            Field::Kind => u32::from(frame.types),
+            Field::Row => u32::from(frame.rows),
+            Field::Stage => entry_of(&frame.lengths, before),
+            Field::Units => entry_of(&frame.capacity, before),
+        }
     }
 }
 
-// Are the numbers of a record in the ranges of its fields?
-pub fn in_ranges<'a>(
-    rec: Record,
-    counts: Counts,
-    capacity: &'a [u8; 32],
-    lengths: &'a [u8; 16],
-) -> bool
-    ensures { result ≡ in_ranges (known_with counts capacity.now lengths.now) rec }
+// Are the numbers of a record in the ranges of its fields, after what a plan so far has?
+pub fn in_ranges(rec: Record, frame: &Frame) -> bool
+    ensures { result ≡ in_ranges (known_in frame.now) rec }
 {
-    let section = rec.section;
-    let row = layout_row(section);
-    let count = row[0] as usize;
     let numbers = [rec.first, rec.second, rec.third, rec.fourth];
+    let fields = layout(rec.section);
     let mut before = 0;
-    let mut i = 0;
-    while i < count {
+    for (i, field) in fields.iter().enumerate() {
         let x = numbers[i];
-        let code = row[3 * i + 1];
-        let low = row[3 * i + 2];
-        let fixed = row[3 * i + 3];
-        let high = highest_by(code, fixed, before, counts, capacity, lengths);
-        if x < low {
-            return false;
-        }
-        if high < x {
+        if x < field.lowest() || field.highest(before, frame) < x {
             return false;
         }
         before = x;
-        i += 1;
     }
     true
 }

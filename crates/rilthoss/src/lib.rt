@@ -13,6 +13,7 @@ use cell_reads::frame_in;
 use cell_writes::put_plan;
 use events::Event;
 use moves_run::answer_input;
+use plan_bytes::LentPlan;
 use plan_numbers::{check_first, check_number, check_second, text_number, write_number};
 use plan_upstream::upstream_check;
 use read_plan::read;
@@ -23,7 +24,7 @@ fn pack_two(number: u32, first: u32, second: u32) -> u64
     requires { (number ≤ 65535) × (second ≤ 65535) }
     ensures { result ≡ packed number first second }
 {
-    number as u64 + 65536 * (second as u64) + 4294967296 * (first as u64)
+    u64::from(number) + 65536 * u64::from(second) + 4294967296 * u64::from(first)
 }
 
 pub fn rilthoss_load(cell: &mut [u8], job: u32, kind: u32) -> u64
@@ -65,8 +66,11 @@ pub fn rilthoss_read_plan(cell: &mut [u8], text: &[u8]) -> u64
     }
     let reading = read(text);
     let answer = reading.answer;
-    let frame = reading.frame;
-    put_plan(frame, &reading.stages, cell);
+    let plan = LentPlan {
+        frame: &reading.frame,
+        stages: &reading.stages,
+    };
+    put_plan(plan, cell);
     pack(text_number(answer), reading.line)
 }
 
@@ -88,7 +92,11 @@ pub fn rilthoss_write_plan<'a>(cell: &'a [u8], buffer: &'a mut [u8]) -> u64
         return NO_CELL;
     }
     let frame = frame_in(cell);
-    let written = write_plan(frame, &cell[STAGES..JOB_COUNT], buffer);
+    let plan = LentPlan {
+        frame: &frame,
+        stages: &cell[STAGES..JOB_COUNT],
+    };
+    let written = write_plan(plan, buffer);
     let answer = written.answer;
     pack(write_number(answer), written.length as u32)
 }
@@ -101,7 +109,10 @@ pub fn rilthoss_check(cell: &[u8]) -> u64
         return NO_CELL;
     }
     let frame = frame_in(cell);
-    let check = upstream_check(frame, &cell[STAGES..JOB_COUNT]);
+    let check = upstream_check(LentPlan {
+        frame: &frame,
+        stages: &cell[STAGES..JOB_COUNT],
+    });
     let number = check_number(check);
     let first = check_first(check);
     let second = check_second(check);

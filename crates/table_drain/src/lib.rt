@@ -8,41 +8,42 @@ ghost use Rattle.model.specs.Jobs.{no_job};
 ghost use Rattle.events.specs.JobList.{Agrees};
 ghost use Rattle.events.specs.Drain.{drain_from, list_drain};
 ghost use Rattle.internals.specs.Internals.{ceilings_of, earliest_position, moved_at};
-ghost use Rattle.plan_bytes.specs.Over.{plan_over};
+ghost use Rattle.plan_bytes.specs.Over.{plan_of};
 ghost use Rattle.model.specs.declared.Plan.{Plan};
 
 use events::{Answer, End, JobList, ListDrained};
-use internals::Ceilings;
+use internals::{Ceilings, LentJobs};
 use model::Job;
-use plan_bytes::Frame;
+use plan_bytes::LentPlan;
 use plan_stages::{length_of, stage_index};
 use table_agreement::agree;
 use table_jobs::{laid, with_replaced, without_job};
 use table_sums::{kept_after, sums_of};
 
-// The position of the earliest loaded job whose move is admitted; the count where there is none. A job at its last stage
-// can always be unloaded.
-fn earliest(frame: Frame, stages: &[u8], t: JobList, ceilings: Ceilings) -> usize
-    requires { Sound (plan_over frame stages.now) × Agrees (plan_over frame stages.now) t × (ceilings ≡ ceilings_of (plan_over frame stages.now)) }
-    ensures { result ≡ earliest_position (plan_over frame stages.now) t }
+// The position of the earliest loaded job whose move is admitted. A job at its last stage can always be unloaded.
+fn earliest(plan: LentPlan<'_>, t: JobList, ceilings: Ceilings) -> Option<usize>
+    requires { Sound (plan_of plan) × Agrees (plan_of plan) t × (ceilings ≡ ceilings_of (plan_of plan)) }
+    ensures { result ≡ earliest_position (plan_of plan.entry) t }
 {
-    let jobs = laid(t);
+    let numbers = laid(t);
     let count = t.count;
-    let sums = sums_of(frame, stages, count, &jobs);
-    let mut i = 0;
-    while i < count {
+    let jobs = LentJobs {
+        count,
+        numbers: &numbers,
+    };
+    let sums = sums_of(plan, jobs);
+    for i in 0..count {
         let j = t.jobs[i];
-        if length_of(&frame.lengths, j.kind) == j.stage {
-            return i;
+        if length_of(&plan.frame.lengths, j.kind) == j.stage {
+            return Some(i);
         }
-        let from = stage_index(&frame.lengths, j.kind, j.stage);
+        let from = stage_index(&plan.frame.lengths, j.kind, j.stage);
         let to = from + 1;
-        if let Answer::Admitted = kept_after(sums, stages, from, to, ceilings) {
-            return i;
+        if kept_after(sums, plan.stages, from, to, ceilings).is_ok() {
+            return Some(i);
         }
-        i += 1;
     }
-    i
+    None
 }
 
 // The list after the move of the job at this position, under any plan with these stages per type: an advance, or an unload
@@ -56,26 +57,20 @@ fn after_move(t: JobList, at: usize, lengths: &[u8; 16]) -> JobList
         return without_job(t, at);
     }
     let next = Job {
-        number: j.number,
-        kind: j.kind,
         stage: j.stage + 1,
+        ..j
     };
     with_replaced(t, at, next)
 }
 
 // From an agreeing list: is a job left, is there budget, is some job's move admitted.
-fn drain_from(
-    frame: Frame,
-    stages: &[u8],
-    t: JobList,
-    ceilings: Ceilings,
-    budget: u32,
-) -> ListDrained
-    requires { Sound (plan_over frame stages.now) × Agrees (plan_over frame stages.now) t × (ceilings ≡ ceilings_of (plan_over frame stages.now)) }
-    ensures { result ≡ drain_from (plan_over frame stages.now) budget t }
+fn drain_from(plan: LentPlan<'_>, t: JobList, ceilings: Ceilings, budget: u32) -> ListDrained
+    requires { Sound (plan_of plan) × Agrees (plan_of plan) t × (ceilings ≡ ceilings_of (plan_of plan)) }
+    ensures { result ≡ drain_from (plan_of plan.entry) budget t }
 {
     let mut t = t;
     let mut moves = 0;
+    // the loop with a budget that document 01 names
     while 0 < t.count {
         if budget <= moves {
             return ListDrained {
@@ -84,15 +79,15 @@ fn drain_from(
                 list: t,
             };
         }
-        let at = earliest(frame, stages, t, ceilings);
-        if t.count <= at {
+        let first = earliest(plan, t, ceilings);
+        let Some(at) = first else {
             return ListDrained {
                 end: End::NoMove,
                 moves,
                 list: t,
             };
-        }
-        t = after_move(t, at, &frame.lengths);
+        };
+        t = after_move(t, at, &plan.frame.lengths);
         moves += 1;
     }
     ListDrained {
@@ -102,14 +97,19 @@ fn drain_from(
     }
 }
 
-pub fn drain(t: JobList, frame: Frame, stages: &[u8], budget: u32) -> ListDrained
-    ensures { result ≡ list_drain (plan_over frame stages.now) t budget }
+pub fn drain(t: JobList, plan: LentPlan<'_>, budget: u32) -> ListDrained
+    ensures { result ≡ list_drain (plan_of plan.entry) t budget }
 {
-    let jobs = laid(t);
-    let agreement = agree(frame, stages, t.count, &jobs);
-    let first = agreement.answer;
-    match first {
-        Answer::Admitted => drain_from(frame, stages, t, agreement.ceilings, budget),
+    let numbers = laid(t);
+    let jobs = LentJobs {
+        count: t.count,
+        numbers: &numbers,
+    };
+    let refusal = match agree(plan, jobs) {
+        Ok(agreed) => return drain_from(plan, t, agreed.ceilings, budget),
+        Err(refusal) => refusal,
+    };
+    match refusal {
         Answer::UnsoundPlan => ListDrained {
             end: End::UnsoundPlan,
             moves: 0,

@@ -1,15 +1,27 @@
--- What the opening of an event whose job must be active, a move or a pull, hands on: the answer to questions 11 to 14 and 17, the agreement,
--- and the job that it names.
-use Rattle.std.specs.Prelude.{ℕ, ◌≡◌}
-use Rattle.model.specs.Jobs.{job_of}
+-- What the opening of an event whose job must be active, a move or a pull, hands on: where questions 11 to 14 and 17 are met what agreement hands on
+-- and the job that the event names; and the removal of that job.
+use Rattle.std.specs.Prelude.{ℕ, Result, Ok, Err}
 use Rattle.model.specs.declared.Plan.{Plan}
 use Rattle.events.specs.JobList.{jobs_of}
 use Rattle.events.specs.declared.JobList.{JobList}
-use Rattle.internals.specs.Internals.{position_of, found_in, stage_met, active_answer, agreed}
+use Rattle.events.specs.declared.Answer.{Answer}
+use Rattle.internals.specs.Internals.{found_in, active_answer, agreed}
+use Rattle.internals.specs.declared.Agreed.{Agreed}
+use Rattle.internals.specs.declared.Found.{Found}
+use Rattle.internals.specs.declared.Change.{Change}
+use Rattle.internals.specs.declared.Change.TheVariants.{Removed}
 use Rattle.internals.specs.declared.StageAsked.{StageAsked}
 use Rattle.table_events.specs.declared.Asked.{Asked}
 
-pub record ActiveAsked (p : Plan) (t : JobList) (n : ℕ) (wanted : StageAsked) (a : Asked) : Type 0 where
-  pub answer : a.answer ≡ active_answer (agreed p t).answer t.count (position_of n (jobs_of t)) n (stage_met p wanted (job_of n (jobs_of t)))
-  pub agreement : a.agreement ≡ agreed p t
-  pub found : a.found ≡ found_in n (jobs_of t)
+-- the first refusal, and else both
+abbrev pub both_asked : Result Agreed Answer → Result Found Answer → Result Asked Answer
+both_asked (Ok g) (Ok f) = Ok (record { agreed = g; found = f })
+both_asked (Ok g) (Err refusal) = Err refusal
+both_asked (Err refusal) f = Err refusal
+
+abbrev pub active_asked : Plan → JobList → ℕ → StageAsked → Result Asked Answer
+active_asked p t n wanted = both_asked (agreed p t) (active_answer p.lengths (found_in n (jobs_of t)) n wanted)
+
+abbrev pub removal_from : Result Asked Answer → Result Change Answer
+removal_from (Ok a) = Ok (Removed a.found.at)
+removal_from (Err refusal) = Err refusal

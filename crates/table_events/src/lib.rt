@@ -2,194 +2,110 @@
 #![tactic(auto)]
 
 ghost use Rattle.std.specs.Prelude.{◌≡◌};
-ghost use Rattle.events.specs.Events.{list_outcome};
-ghost use Rattle.plan_bytes.specs.Over.{plan_over};
-ghost use Rattle.internals.specs.JobNumbers.{list_over, applied, removal_from};
-ghost use Rattle.table_events.specs.ActiveAsked.{ActiveAsked};
+ghost use Rattle.plan_bytes.specs.Over.{plan_of};
+ghost use Rattle.internals.specs.JobNumbers.{list_lent, Judges};
+ghost use Rattle.table_events.specs.ActiveAsked.{active_asked, removal_from};
 
 use events::{Answer, Event};
-use internals::{Agreement, Change, Found, Judgement, StageAsked};
+use internals::{Agreed, Change, Found, LentJobs, StageAsked};
 use model::Job;
-use plan_bytes::Frame;
-use plan_stages::{NO_STAGE, length_of, stage_index};
+use plan_bytes::LentPlan;
+use plan_stages::{NO_STAGE, stage_index};
 use table_agreement::agree;
 use table_jobs::look_up;
-use table_questions::{active_answer, load_answer, stage_met};
+use table_questions::{active_answer, load_answer};
 use table_sums::kept_after;
 
-// Questions 11 to 14 and 17 of an event whose job must be active, with the agreement and the job that it names.
-#[derive(Drop)]
+pub fn load<'a>(
+    plan: LentPlan<'a>,
+    jobs: LentJobs<'a>,
+    job: u32,
+    kind: u32,
+) -> Result<Change, Answer>
+    ensures { Judges (plan_of plan.entry) (list_lent jobs.entry) (Event.Load job kind) result }
+{
+    let agreed = agree(plan, jobs)?;
+    let types = plan.frame.types as u32;
+    load_answer(jobs.count, look_up(jobs, job), types, job, kind)?;
+    let to = stage_index(&plan.frame.lengths, kind, 1);
+    kept_after(agreed.sums, plan.stages, NO_STAGE, to, agreed.ceilings)?;
+    Ok(Change::Added(Job {
+        number: job,
+        kind,
+        stage: 1,
+    }))
+}
+
+// What questions 11 to 14 and 17 hand on of an event whose job must be active: what agreement does, and the job that it names.
+#[derive(Clone, Copy)]
 pub(crate) struct Asked {
-    pub answer: Answer,
-    pub agreement: Agreement,
+    pub agreed: Agreed,
     pub found: Found,
 }
 
 fn ask_active<'a>(
-    frame: Frame,
-    stages: &'a [u8],
-    count: usize,
-    jobs: &'a [u32; 192],
+    plan: LentPlan<'a>,
+    jobs: LentJobs<'a>,
     job: u32,
     wanted: StageAsked,
-) -> Asked
-    ensures { ActiveAsked (plan_over frame stages.now) (list_over count jobs.now) job wanted result }
+) -> Result<Asked, Answer>
+    ensures { result ≡ active_asked (plan_of plan.entry) (list_lent jobs.entry) job wanted }
 {
-    let agreement = agree(frame, stages, count, jobs);
-    let first = agreement.answer;
-    let found = look_up(count, jobs, job);
-    let j = found.job;
-    let met = stage_met(j.stage, length_of(&frame.lengths, j.kind), wanted);
-    Asked {
-        answer: active_answer(first, count, found.at, job, met),
-        agreement,
-        found,
-    }
+    let agreed = agree(plan, jobs)?;
+    let found = active_answer(&plan.frame.lengths, look_up(jobs, job), job, wanted)?;
+    Ok(Asked { agreed, found })
 }
 
-fn refused(answer: Answer) -> Judgement
-    ensures { result ≡ record { answer = answer; change = Change.Nothing } }
+pub fn advance<'a>(plan: LentPlan<'a>, jobs: LentJobs<'a>, job: u32) -> Result<Change, Answer>
+    ensures { Judges (plan_of plan.entry) (list_lent jobs.entry) (Event.Advance job) result }
 {
-    Judgement {
-        answer,
-        change: Change::Nothing,
-    }
-}
-
-pub fn load<'a>(
-    frame: Frame,
-    stages: &'a [u8],
-    count: usize,
-    jobs: &'a [u32; 192],
-    job: u32,
-    kind: u32,
-) -> Judgement
-    ensures { applied (list_over count jobs.now) result ≡ list_outcome (plan_over frame stages.now) (list_over count jobs.now) (Event.Load job kind) }
-{
-    let agreement = agree(frame, stages, count, jobs);
-    let agreed = agreement.answer;
-    let found = look_up(count, jobs, job);
-    let first = load_answer(agreed, count, found.at, frame.types as u32, job, kind);
-    let Answer::Admitted = first else {
-        return refused(first);
-    };
-    let to = stage_index(&frame.lengths, kind, 1);
-    let last = kept_after(agreement.sums, stages, NO_STAGE, to, agreement.ceilings);
-    let Answer::Admitted = last else {
-        return refused(last);
-    };
-    let next = Job {
-        number: job,
-        kind,
-        stage: 1,
-    };
-    Judgement {
-        answer: last,
-        change: Change::Added(next),
-    }
-}
-
-pub fn advance<'a>(
-    frame: Frame,
-    stages: &'a [u8],
-    count: usize,
-    jobs: &'a [u32; 192],
-    job: u32,
-) -> Judgement
-    ensures { applied (list_over count jobs.now) result ≡ list_outcome (plan_over frame stages.now) (list_over count jobs.now) (Event.Advance job) }
-{
-    let asked = ask_active(frame, stages, count, jobs, job, StageAsked::Next);
-    let first = asked.answer;
-    let Answer::Admitted = first else {
-        return refused(first);
-    };
-    let found = asked.found;
-    let j = found.job;
-    let from = stage_index(&frame.lengths, j.kind, j.stage);
+    let Asked { agreed, found } = ask_active(plan, jobs, job, StageAsked::Next)?;
+    let from = stage_index(&plan.frame.lengths, found.job.kind, found.job.stage);
     let to = from + 1;
-    let last = kept_after(
-        asked.agreement.sums,
-        stages,
-        from,
-        to,
-        asked.agreement.ceilings,
-    );
-    let Answer::Admitted = last else {
-        return refused(last);
-    };
-    let stage = j.stage + 1;
+    kept_after(agreed.sums, plan.stages, from, to, agreed.ceilings)?;
     let next = Job {
-        number: j.number,
-        kind: j.kind,
-        stage,
+        stage: found.job.stage + 1,
+        ..found.job
     };
-    Judgement {
-        answer: last,
-        change: Change::Moved {
-            at: found.at,
-            job: next,
-        },
-    }
+    Ok(Change::Moved {
+        at: found.at,
+        job: next,
+    })
 }
 
-// The job at this position goes, where the questions were met. It only gives back, so 18 and 19 need not be asked.
-#[tactic(auto, using(events::proofs::AnswerTags::not_admitted), unfolding(internals::specs::JobNumbers::removal_from))]
-fn removal(first: Answer, at: usize) -> Judgement
-    ensures { result ≡ removal_from first at }
-{
-    let Answer::Admitted = first else {
-        return refused(first);
-    };
-    Judgement {
-        answer: first,
-        change: Change::Removed(at),
-    }
-}
-
-pub fn unload<'a>(
-    frame: Frame,
-    stages: &'a [u8],
-    count: usize,
-    jobs: &'a [u32; 192],
+// The job goes. It only gives back, so 18 and 19 need not be asked.
+fn removal<'a>(
+    plan: LentPlan<'a>,
+    jobs: LentJobs<'a>,
     job: u32,
-) -> Judgement
-    ensures { applied (list_over count jobs.now) result ≡ list_outcome (plan_over frame stages.now) (list_over count jobs.now) (Event.Unload job) }
+    wanted: StageAsked,
+) -> Result<Change, Answer>
+    ensures { result ≡ removal_from (active_asked (plan_of plan.entry) (list_lent jobs.entry) job wanted) }
 {
-    let asked = ask_active(frame, stages, count, jobs, job, StageAsked::Last);
-    let first = asked.answer;
-    let found = asked.found;
-    removal(first, found.at)
+    let asked = ask_active(plan, jobs, job, wanted)?;
+    Ok(Change::Removed(asked.found.at))
 }
 
-pub fn pull<'a>(
-    frame: Frame,
-    stages: &'a [u8],
-    count: usize,
-    jobs: &'a [u32; 192],
-    job: u32,
-) -> Judgement
-    ensures { applied (list_over count jobs.now) result ≡ list_outcome (plan_over frame stages.now) (list_over count jobs.now) (Event.Pull job) }
+pub fn unload<'a>(plan: LentPlan<'a>, jobs: LentJobs<'a>, job: u32) -> Result<Change, Answer>
+    ensures { Judges (plan_of plan.entry) (list_lent jobs.entry) (Event.Unload job) result }
 {
-    let asked = ask_active(frame, stages, count, jobs, job, StageAsked::Any);
-    let first = asked.answer;
-    let found = asked.found;
-    removal(first, found.at)
+    removal(plan, jobs, job, StageAsked::Last)
+}
+
+pub fn pull<'a>(plan: LentPlan<'a>, jobs: LentJobs<'a>, job: u32) -> Result<Change, Answer>
+    ensures { Judges (plan_of plan.entry) (list_lent jobs.entry) (Event.Pull job) result }
+{
+    removal(plan, jobs, job, StageAsked::Any)
 }
 
 // Any event.
-pub fn judge<'a>(
-    frame: Frame,
-    stages: &'a [u8],
-    count: usize,
-    jobs: &'a [u32; 192],
-    event: Event,
-) -> Judgement
-    ensures { applied (list_over count jobs.now) result ≡ list_outcome (plan_over frame stages.now) (list_over count jobs.now) event }
+pub fn judge<'a>(plan: LentPlan<'a>, jobs: LentJobs<'a>, event: Event) -> Result<Change, Answer>
+    ensures { Judges (plan_of plan.entry) (list_lent jobs.entry) event result }
 {
     match event {
-        Event::Load { job, kind } => load(frame, stages, count, jobs, job, kind),
-        Event::Advance(job) => advance(frame, stages, count, jobs, job),
-        Event::Unload(job) => unload(frame, stages, count, jobs, job),
-        Event::Pull(job) => pull(frame, stages, count, jobs, job),
+        Event::Load { job, kind } => load(plan, jobs, job, kind),
+        Event::Advance(job) => advance(plan, jobs, job),
+        Event::Unload(job) => unload(plan, jobs, job),
+        Event::Pull(job) => pull(plan, jobs, job),
     }
 }

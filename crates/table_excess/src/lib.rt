@@ -4,21 +4,24 @@
 
 ghost use Rattle.std.specs.Prelude.{◌≡◌, ◌+◌, ◌-◌};
 ghost use Rattle.model.specs.Numbers.{at};
+ghost use Rattle.model.specs.Jobs.{job_of};
 ghost use Rattle.events.specs.JobList.{jobs_of};
-ghost use Rattle.plan_bytes.specs.Over.{plan_over};
+ghost use Rattle.plan_bytes.specs.Over.{plan_of};
 ghost use Rattle.told_text.specs.EventMessage.{excess_after};
 ghost use Rattle.internals.specs.Internals.{index_in};
-ghost use Rattle.internals.specs.JobNumbers.{list_over};
+ghost use Rattle.internals.specs.JobNumbers.{list_lent};
 ghost use Rattle.table_excess.specs.Exchanges.{removal_in, exchange_in};
 
 use events::{Event, JobList};
-use model::Job;
-use plan_bytes::Frame;
+use internals::LentJobs;
+use model::{Job, NO_JOB};
+use plan_bytes::LentPlan;
 use plan_stages::{NO_STAGE, length_of, weights_at};
 use table_jobs::{laid, look_up};
 use table_sums::{above_ceiling, index_of, sums_of};
 
-// Where the stages stand that an event gives back and takes, counted from 0; 128 for none.
+// Where the stages stand that an event gives back and takes, counted from 0. 128 for none, as of `index_of`: no stage stands there, which weighs nothing, so
+// neither end has to be asked whether it is there.
 #[derive(Clone, Copy)]
 pub(crate) struct Exchange {
     pub old: usize,
@@ -33,38 +36,35 @@ fn next_index(lengths: &[u8; 16], types: u32, j: Job) -> usize
         return NO_STAGE;
     }
     let next = Job {
-        number: j.number,
-        kind: j.kind,
         stage: j.stage + 1,
+        ..j
     };
     index_of(lengths, types, next)
 }
 
-// A job that goes only gives back.
-fn removal<'a>(
-    lengths: &'a [u8; 16],
-    types: u32,
-    count: usize,
-    jobs: &'a [u32; 192],
-    job: u32,
-) -> Exchange
-    ensures { result ≡ removal_in lengths.now types (jobs_of (list_over count jobs.now)) job }
+// The job with a number; none where it is not active.
+fn named(jobs: LentJobs<'_>, job: u32) -> Job
+    ensures { result ≡ job_of job (jobs_of (list_lent jobs.entry)) }
 {
-    let j = look_up(count, jobs, job).job;
+    match look_up(jobs, job) {
+        Some(found) => found.job,
+        None => NO_JOB,
+    }
+}
+
+// A job that goes only gives back.
+fn removal<'a>(lengths: &'a [u8; 16], types: u32, jobs: LentJobs<'a>, job: u32) -> Exchange
+    ensures { result ≡ removal_in lengths.now types (jobs_of (list_lent jobs.entry)) job }
+{
+    let j = named(jobs, job);
     Exchange {
         old: index_of(lengths, types, j),
         new: NO_STAGE,
     }
 }
 
-fn exchange_of<'a>(
-    lengths: &'a [u8; 16],
-    types: u32,
-    count: usize,
-    jobs: &'a [u32; 192],
-    event: Event,
-) -> Exchange
-    ensures { result ≡ exchange_in lengths.now types (jobs_of (list_over count jobs.now)) event }
+fn exchange_of<'a>(lengths: &'a [u8; 16], types: u32, jobs: LentJobs<'a>, event: Event) -> Exchange
+    ensures { result ≡ exchange_in lengths.now types (jobs_of (list_lent jobs.entry)) event }
 {
     match event {
         Event::Load { job, kind } => {
@@ -79,14 +79,13 @@ fn exchange_of<'a>(
             }
         }
         Event::Advance(job) => {
-            let j = look_up(count, jobs, job).job;
+            let j = named(jobs, job);
             Exchange {
                 old: index_of(lengths, types, j),
                 new: next_index(lengths, types, j),
             }
         }
-        Event::Unload(job) => removal(lengths, types, count, jobs, job),
-        Event::Pull(job) => removal(lengths, types, count, jobs, job),
+        Event::Unload(job) | Event::Pull(job) => removal(lengths, types, jobs, job),
     }
 }
 
@@ -94,10 +93,7 @@ fn exchange_of<'a>(
 fn row_above(sums: [u16; 32], old: [u8; 32], new: [u8; 32], bounds: [u16; 32], row: u32) -> u32
     ensures { result ≡ at sums row - at old row + at new row - at bounds row }
 {
-    if row < 1 {
-        return 0;
-    }
-    if 32 < row {
+    if !(1..=32).contains(&row) {
         return 0;
     }
     let i = (row - 1) as usize;
@@ -105,15 +101,19 @@ fn row_above(sums: [u16; 32], old: [u8; 32], new: [u8; 32], bounds: [u16; 32], r
 }
 
 // By how much the row would be exceeded, were the event made; 0 where it would be kept.
-pub fn excess_after(list: JobList, frame: Frame, stages: &[u8], event: Event, row: u32) -> u32
-    ensures { result ≡ excess_after (plan_over frame stages.now) list event row }
+pub fn excess_after(list: JobList, plan: LentPlan<'_>, event: Event, row: u32) -> u32
+    ensures { result ≡ excess_after (plan_of plan.entry) list event row }
 {
-    let jobs = laid(list);
-    let sums = sums_of(frame, stages, list.count, &jobs);
-    let exchange = exchange_of(&frame.lengths, frame.types as u32, list.count, &jobs, event);
-    let old = weights_at(stages, exchange.old);
-    let new = weights_at(stages, exchange.new);
+    let numbers = laid(list);
+    let jobs = LentJobs {
+        count: list.count,
+        numbers: &numbers,
+    };
+    let sums = sums_of(plan, jobs);
+    let exchange = exchange_of(&plan.frame.lengths, plan.frame.types as u32, jobs, event);
+    let old = weights_at(plan.stages, exchange.old);
+    let new = weights_at(plan.stages, exchange.new);
     let rows = sums.rows;
-    let bounds = frame.bound;
+    let bounds = plan.frame.bound;
     row_above(rows, old, new, bounds, row)
 }

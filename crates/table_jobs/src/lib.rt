@@ -2,43 +2,22 @@
 // out. Any list may be handed in.
 #![tactic(auto)]
 
-ghost use Rattle.std.specs.Prelude.{◌≡◌, min, get_or};
-ghost use Rattle.model.specs.Limits.{max_jobs};
+ghost use Rattle.std.specs.Prelude.{◌≡◌, get_or};
 ghost use Rattle.model.specs.Jobs.{no_job};
 ghost use Rattle.events.specs.JobList.{jobs_of};
 ghost use Rattle.internals.specs.Internals.{found_in, with_job, with_replaced, without_job};
-ghost use Rattle.internals.specs.JobNumbers.{jobs_laid, list_over, applied};
+ghost use Rattle.internals.specs.JobNumbers.{jobs_laid, list_lent, applied};
 
-use events::{JobList, ListOutcome};
-use internals::{Change, Found, Judgement};
-use model::Job;
-
-fn no_job() -> Job
-    ensures { result ≡ no_job }
-{
-    Job {
-        number: 0,
-        kind: 0,
-        stage: 0,
-    }
-}
-
-// As many as the count says, where there are slots for them.
-fn within(count: usize) -> usize
-    ensures { result ≡ min count max_jobs }
-{
-    if count < 64 {
-        return count;
-    }
-    64
-}
+use events::{Answer, JobList, ListOutcome};
+use internals::{Change, Found, LentJobs};
+use model::{Job, NO_JOB};
 
 // The job in a slot; none beyond the last.
 pub fn job_at(jobs: &[u32; 192], at: usize) -> Job
     ensures { result ≡ get_or (jobs_laid jobs.now) at no_job }
 {
     if 63 < at {
-        return no_job();
+        return NO_JOB;
     }
     let from = at * 3;
     Job {
@@ -53,35 +32,27 @@ pub fn laid(t: JobList) -> [u32; 192]
     ensures { jobs_laid result ≡ t.jobs }
 {
     let mut numbers = [0; 192];
-    let mut i = 0;
-    while i < 64 {
+    for i in 0..64 {
         let j = t.jobs[i];
         let from = i * 3;
         numbers[from] = j.number;
         numbers[from + 1] = j.kind;
         numbers[from + 2] = j.stage;
-        i += 1;
     }
     numbers
 }
 
 // Where the job with a number stands, and the job.
-pub fn look_up(count: usize, jobs: &[u32; 192], number: u32) -> Found
-    ensures { result ≡ found_in number (jobs_of (list_over count jobs.now)) }
+pub fn look_up(jobs: LentJobs<'_>, number: u32) -> Option<Found>
+    ensures { result ≡ found_in number (jobs_of (list_lent jobs.entry)) }
 {
-    let n = within(count);
-    let mut i = 0;
-    while i < n {
-        let j = job_at(jobs, i);
-        if j.number == number {
-            return Found { at: i, job: j };
+    for at in 0..jobs.count.min(64) {
+        let job = job_at(jobs.numbers, at);
+        if job.number == number {
+            return Some(Found { at, job });
         }
-        i += 1;
     }
-    Found {
-        at: i,
-        job: no_job(),
-    }
+    None
 }
 
 // A job more, last in order.
@@ -123,37 +94,27 @@ pub fn without_job(t: JobList, at: usize) -> JobList
         return t;
     }
     let mut next = t;
-    let mut i = at;
-    while i < 63 {
-        let from = i + 1;
-        let j = next.jobs[from];
-        next.jobs[i] = j;
-        i += 1;
-    }
-    next.jobs[63] = no_job();
+    next.jobs.copy_within(at + 1.., at);
+    next.jobs[63] = NO_JOB;
     next.count = count - 1;
     next
 }
 
-// What an event with this judgement leads to.
-pub fn changed(t: JobList, judgement: Judgement) -> ListOutcome
-    ensures { result ≡ applied t judgement }
+// What an event that was judged so leads to.
+pub fn changed(t: JobList, judged: Result<Change, Answer>) -> ListOutcome
+    ensures { result ≡ applied t judged }
 {
-    let answer = judgement.answer;
-    let change = judgement.change;
-    match change {
-        Change::Nothing => ListOutcome { answer, list: t },
-        Change::Added(job) => ListOutcome {
-            answer,
-            list: with_job(t, job),
-        },
-        Change::Moved { at, job } => ListOutcome {
-            answer,
-            list: with_replaced(t, at, job),
-        },
-        Change::Removed(at) => ListOutcome {
-            answer,
-            list: without_job(t, at),
-        },
+    let change = match judged {
+        Ok(change) => change,
+        Err(answer) => return ListOutcome { answer, list: t },
+    };
+    let list = match change {
+        Change::Added(job) => with_job(t, job),
+        Change::Moved { at, job } => with_replaced(t, at, job),
+        Change::Removed(at) => without_job(t, at),
+    };
+    ListOutcome {
+        answer: Answer::Admitted,
+        list,
     }
 }

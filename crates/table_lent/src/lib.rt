@@ -1,44 +1,30 @@
-// The table lent: an event is answered, and its outcome written into the host's own table. `decided` does the work; `apply` is lent the table.
+// The table lent: an event is answered, and its outcome written into the host's own table.
 #![tactic(auto)]
 
 ghost use Rattle.std.specs.Prelude.{◌≡◌};
-ghost use Rattle.plan_bytes.specs.Over.{plan_over};
+ghost use Rattle.events.specs.Events.{is_admitted};
+ghost use Rattle.plan_bytes.specs.Over.{plan_of};
 ghost use Rattle.admission.specs.Table.{outcome};
-ghost use Rattle.table_lent.specs.Decision.{decision};
 
 use admission::Table;
 use events::{Answer, Event};
-use plan_bytes::Frame;
-use table_numbers::answer_number;
+use plan_bytes::LentPlan;
 
-// The answer to an event, whether the table is written, and the table that is then written.
-#[derive(Clone, Copy)]
-struct Decision {
-    answer: Answer,
-    writes: bool,
-    table: Table,
-}
-
-fn decided(table: Table, frame: Frame, stages: &[u8], event: Event) -> Decision
-    ensures { result ≡ decision (plan_over frame stages.now) table event }
+fn is_admitted(answer: Answer) -> bool
+    ensures { result ≡ is_admitted answer }
 {
-    let outcome = table.handle(frame, stages, event);
-    let answer = outcome.answer;
-    let next = outcome.table;
-    Decision {
-        answer,
-        writes: answer_number(answer) == 0,
-        table: next,
-    }
+    matches!(answer, Answer::Admitted)
 }
 
 // The table then holds what the outcome names. A refusal writes nothing.
-pub fn apply(table: &mut Table, frame: Frame, stages: &[u8], event: Event) -> Answer
-    ensures { record { answer = result; table = table.new } ≡ outcome (plan_over frame stages.now) table.old event }
+pub fn apply(table: &mut Table, plan: LentPlan<'_>, event: Event) -> Answer
+    ensures { record { answer = result; table = table.new } ≡ outcome (plan_of plan.entry) table.old event }
 {
-    let decision = decided(*table, frame, stages, event);
-    if decision.writes {
-        *table = decision.table;
+    let before = *table;
+    let outcome = before.handle(plan, event);
+    let answer = outcome.answer;
+    if is_admitted(answer) {
+        *table = outcome.table;
     }
-    decision.answer
+    answer
 }

@@ -32,16 +32,16 @@ pub fn answer_place(a: Answer) -> u32
     ensures { result ≡ (answer_numbers a).1 }
 {
     match a {
-        Answer::Admitted => 0,
-        Answer::UnsoundPlan => 0,
-        Answer::Disagreement => 0,
-        Answer::BadNumber => 0,
-        Answer::WrongActivity => 0,
-        Answer::UnknownType => 0,
-        Answer::Full => 0,
-        Answer::WrongStage => 0,
         Answer::OverCapacity(resource) => resource,
         Answer::RowBroken(row) => row,
+        Answer::Admitted
+        | Answer::UnsoundPlan
+        | Answer::Disagreement
+        | Answer::BadNumber
+        | Answer::WrongActivity
+        | Answer::UnknownType
+        | Answer::Full
+        | Answer::WrongStage => 0,
     }
 }
 

@@ -1,52 +1,39 @@
-// Questions 13 to 17 by numbers that the code has at hand: what was answered before, the count of jobs, where the search for the
-// job number ended.
+// Questions 13 to 17, asked where those before are met, of what the search for the job number found.
 #![tactic(auto)]
 
 ghost use Rattle.std.specs.Prelude.{◌≡◌};
-ghost use Rattle.model.specs.Numbers.{in_range};
-ghost use Rattle.internals.specs.Internals.{stage_meets, active_answer, load_answer};
+ghost use Rattle.internals.specs.Internals.{unless_refused, stage_meets, active_answer, load_answer};
 
 use events::Answer;
-use internals::StageAsked;
+use internals::{Found, StageAsked};
+use plan_stages::length_of;
 
-fn in_range(i: u32, n: u32) -> bool
-    ensures { result ≡ in_range i n }
-{
-    if i < 1 { false } else { i <= n }
-}
-
-// Questions 13 to 16 of a load, asked where those before were answered 0, by where the search for the number ended.
-#[tactic(auto, using(events::proofs::AnswerTags::refused_tag), unfolding(internals::specs::Internals::load_answer))]
+// Questions 13 to 16 of a load, in a plan with so many types, where so many jobs are active.
+#[tactic(auto, unfolding(internals::specs::Internals::load_answer))]
 pub fn load_answer(
-    first: Answer,
     count: usize,
-    at: usize,
+    found: Option<Found>,
     types: u32,
     job: u32,
     kind: u32,
-) -> Answer
-    ensures { result ≡ load_answer first count at types job kind }
+) -> Result<(), Answer>
+    ensures { result ≡ unless_refused (load_answer count found types job kind) tt }
 {
-    let Answer::Admitted = first else {
-        return first;
-    };
-    let numbered = in_range(job, 65535);
-    let active = at < count;
-    let known = in_range(kind, types);
+    let known = (1..=types).contains(&kind);
     let room = count < 64;
-    if !numbered {
-        return Answer::BadNumber;
+    if !(1..=65535).contains(&job) {
+        return Err(Answer::BadNumber);
     }
-    if active {
-        return Answer::WrongActivity;
+    if found.is_some() {
+        return Err(Answer::WrongActivity);
     }
     if !known {
-        return Answer::UnknownType;
+        return Err(Answer::UnknownType);
     }
     if !room {
-        return Answer::Full;
+        return Err(Answer::Full);
     }
-    Answer::Admitted
+    Ok(())
 }
 
 // Question 17 at this stage of a type with so many stages.
@@ -60,22 +47,23 @@ pub fn stage_met(stage: u32, length: u32, wanted: StageAsked) -> bool
     }
 }
 
-// Questions 13, 14 and 17 of an event whose job must be active, in the same way.
-#[tactic(auto, using(events::proofs::AnswerTags::refused_tag), unfolding(internals::specs::Internals::active_answer))]
-pub fn active_answer(first: Answer, count: usize, at: usize, job: u32, met: bool) -> Answer
-    ensures { result ≡ active_answer first count at job met }
+// Questions 13, 14 and 17 of an event whose job must be active, in a plan with so many stages of each type.
+#[tactic(auto, unfolding(internals::specs::Internals::active_answer))]
+pub fn active_answer(
+    lengths: &[u8; 16],
+    found: Option<Found>,
+    job: u32,
+    wanted: StageAsked,
+) -> Result<Found, Answer>
+    ensures { result ≡ active_answer lengths.now found job wanted }
 {
-    let Answer::Admitted = first else {
-        return first;
-    };
-    if !in_range(job, 65535) {
-        return Answer::BadNumber;
+    if !(1..=65535).contains(&job) {
+        return Err(Answer::BadNumber);
     }
-    if at < count {
-        if met {
-            return Answer::Admitted;
-        }
-        return Answer::WrongStage;
+    let found = found.ok_or(Answer::WrongActivity)?;
+    let length = length_of(lengths, found.job.kind);
+    if !stage_met(found.job.stage, length, wanted) {
+        return Err(Answer::WrongStage);
     }
-    Answer::WrongActivity
+    Ok(found)
 }

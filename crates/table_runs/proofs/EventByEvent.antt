@@ -1,14 +1,12 @@
 -- A run of a list, event by event: what is left to run from the table at hand, with the events admitted so far added, is
 -- what was to run at the start.
-use Prim.Native.Nat.{ℕ, ◌+◌, ◌≤◌, ◌<◌}
-use native.Mathlib.Numerals.{add-one}
+use Prim.Native.Nat.{ℕ, ◌+◌, ◌≤◌}
 use native.Mathlib.Omega.{arith}
 use mathlib.Core.Bool.{Bool, true, false, cond}
 use mathlib.Core.List.{List, [], ◌∷◌, ◌++◌}
 use mathlib.Core.Path.{◌≡◌, refl, sym, ap, ◌∙◌}
 use lib.Dec.{eqb}
-use lib.ListN.{length, drop, get_or, drop_of_length-le}
-use lib.Seq.{drop-cons}
+use lib.ListN.{length}
 use Rattle.model.specs.declared.Plan.{Plan}
 use Rattle.events.specs.Events.{is_admitted, answer, list_after}
 use Rattle.admission.specs.Table.{table_of, outcome}
@@ -67,34 +65,30 @@ admitted_one p t l n k = go (eqb l 76) (eqb l 65) (eqb l 85) (eqb l 88)
     go false false false true = counts (is_admitted (answer p t.list (Pull n)))
     go false false false false = omega arith
 
--- the event at one position, and all from there on
-module _ (letters jobs kinds : List ℕ) where
-  abbrev pub event_at : ℕ → List Event
-  event_at i = event_of (get_or letters i 0) (get_or jobs i 0) (get_or kinds i 0)
+-- the event that is next is run
+pub run_step : (l n k : ℕ) (letters jobs kinds xs ys zs : List ℕ) → xs ≡ l ∷ letters → ys ≡ n ∷ jobs → zs ≡ k ∷ kinds
+    → (p : Plan) (t : Table) (m : ℕ) (r : Ran) → r ≡ ran p t (event_of l n k)
+    → after_events m (ran p t (events_of xs ys zs)) ≡ after_events (m + r.admitted) (ran p r.table (events_of letters jobs kinds))
+run_step l n k letters jobs kinds xs ys zs a b c p t m r made =
+    let here = event_of l n k in
+    let rest = events_of letters jobs kinds in
+    (λ i. after_events m (ran p t (events_of (a i) (b i) (c i))))
+    ∙ ap (after_events m) (run_parts p t here rest)
+    ∙ after_after m (ran p t here).admitted (ran p (ran p t here).table rest)
+    ∙ ap (λ (r : Ran). after_events (m + r.admitted) (ran p r.table rest)) (sym made)
 
-  abbrev pub events_from : ℕ → List Event
-  events_from i = events_of (drop i letters) (drop i jobs) (drop i kinds)
+-- where a list has ended, no event is left
+pub letters_end : (letters jobs kinds : List ℕ) → length letters ≡ 0 → events_of letters jobs kinds ≡ []
+letters_end [] jobs kinds h = refl
+letters_end (l ∷ letters) jobs kinds h = absurd (omega arith)
 
-  module _ (i : ℕ) where
-    events_here : i < length letters → i < length jobs → i < length kinds → events_from i ≡ event_at i ++ events_from (i + 1)
-    events_here a b c = rw (add-one, drop-cons letters i 0, drop-cons jobs i 0, drop-cons kinds i 0) refl
+pub jobs_end : (letters jobs kinds : List ℕ) → length jobs ≡ 0 → events_of letters jobs kinds ≡ []
+jobs_end [] jobs kinds h = refl
+jobs_end (l ∷ letters) [] kinds h = refl
+jobs_end (l ∷ letters) (n ∷ jobs) kinds h = absurd (omega arith)
 
-    -- the event at this offset is run
-    pub run_step : (p : Plan) (t : Table) (m : ℕ) (r : Ran) → i < length letters → i < length jobs → i < length kinds
-        → r ≡ ran p t (event_at i) → after_events m (ran p t (events_from i)) ≡ after_events (m + r.admitted) (ran p r.table (events_from (i + 1)))
-    run_step p t m r a b c made =
-        let here = event_at i in
-        let rest = events_from (i + 1) in
-        ap (λ es. after_events m (ran p t es)) (events_here a b c)
-        ∙ ap (after_events m) (run_parts p t here rest)
-        ∙ after_after m (ran p t here).admitted (ran p (ran p t here).table rest)
-        ∙ ap (λ (r : Ran). after_events (m + r.admitted) (ran p r.table rest)) (sym made)
-
-    pub letters_end : length letters ≤ i → events_from i ≡ []
-    letters_end h = rw (drop_of_length-le letters {i = i} h) refl
-
-    pub jobs_end : i < length letters → length jobs ≤ i → events_from i ≡ []
-    jobs_end a h = rw (drop-cons letters i 0, drop_of_length-le jobs {i = i} h) refl
-
-    pub kinds_end : i < length letters → i < length jobs → length kinds ≤ i → events_from i ≡ []
-    kinds_end a b h = rw (drop-cons letters i 0, drop-cons jobs i 0, drop_of_length-le kinds {i = i} h) refl
+pub kinds_end : (letters jobs kinds : List ℕ) → length kinds ≡ 0 → events_of letters jobs kinds ≡ []
+kinds_end [] jobs kinds h = refl
+kinds_end (l ∷ letters) [] kinds h = refl
+kinds_end (l ∷ letters) (n ∷ jobs) [] h = refl
+kinds_end (l ∷ letters) (n ∷ jobs) (k ∷ kinds) h = absurd (omega arith)

@@ -3,30 +3,24 @@ use Rattle.std.proofs.Common.{ℕ, zero, suc, ◌≡◌, ◌+◌, ◌-◌, ◌�
 use mathlib.Core.List.{map-append}
 use lib.ListN.{length-map}
 use Rattle.plan_text.specs.LineReading.{span_from}
-use Rattle.plan_text.specs.TextParts.{IsPart}
-use Rattle.plan_text.specs.NthLine.{offset_after, IsNth}
+use Rattle.plan_text.specs.NthLine.{offset_after, nth_line}
+use Rattle.plan_text.specs.TextQuestions.{text_number}
+use Rattle.plan_text.specs.declared.TextAnswer.{TextAnswer}
 use Rattle.moves_text.specs.Quoted.{quoted}
-use Rattle.moves_text.specs.Buffer.{overlaid_at}
-use Rattle.moves_text.proofs.Overlays.{Put, put_then, put_as}
-use Rattle.told_text.specs.PlanMessage.{visible, shown_after}
+use Rattle.told_text.specs.Words.{words_of}
+use Rattle.told_text.specs.Slips.{slip_words, plan_slip}
+use Rattle.told_text.specs.PlanMessage.{visible, shown_after, line_head, message_with}
+use Rattle.told_text.proofs.Short.{line_head_short, words_short, slip_short}
 
-abbrev pub shown : List ℕ → ℕ → List ℕ
-shown part i = map visible (take i part)
-
-shown_next : (part : List ℕ) (i : ℕ) → i < length part → shown part i ++ visible (get_or part i 0) ∷ [] ≡ shown part (i + 1)
-shown_next part i h = rw (add-one, take-suc part i 0 h) (sym (map-append visible (take i part) (get_or part i 0 ∷ [])))
-
-pub next_put : (part buffer : List ℕ) (at i : ℕ) {b : ℕ} {now next : List ℕ} → i < length part → Put at (shown part i) buffer i now
-    → b ≡ visible (get_or part i 0) → next ≡ overlaid_at (at + i) (b ∷ []) now → Put at (shown part (i + 1)) buffer (i + 1) next
-next_put part buffer at i {now = now} h w byte put =
-    let v : List ℕ = visible (get_or part i 0) ∷ [] in
-    put_as at buffer (shown_next part i h) (put_then at (shown part i) v buffer refl w (refl, put ∙ ap (λ b. overlaid_at (at + i) (b ∷ []) now) byte))
+pub shown_next : (part : List ℕ) (i : ℕ) → i < length part
+    → map visible (take (i + 1) part) ≡ map visible (take i part) ++ visible (get_or part i 0) ∷ []
+shown_next part i h = rw (add-one, take-suc part i 0 h) (map-append visible (take i part) (get_or part i 0 ∷ []))
 
 pub none_shown : (part : List ℕ) → length part ≡ 0 → quoted "\n" ≡ shown_after part
 none_shown [] h = refl
 none_shown (b ∷ bs) h = absurd (omega arith)
 
-pub some_shown : (part : List ℕ) → (¬ (length part ≡ 0)) → (quoted ": " ++ map visible part) ++ quoted "\n" ≡ shown_after part
+pub some_shown : (part : List ℕ) → (¬ (length part ≡ 0)) → quoted ": " ++ map visible part ++ quoted "\n" ≡ shown_after part
 some_shown [] h = absurd (h refl)
 some_shown (b ∷ bs) h = refl
 
@@ -34,11 +28,27 @@ pub shown_little_longer : (part : List ℕ) → length (shown_after part) ≤ le
 shown_little_longer [] = omega arith
 shown_little_longer (b ∷ bs) = omega (arith, length-append (map visible bs) (quoted "\n"), length-map bs visible)
 
--- a line is not longer than its text
-part_fits : (text part : Bor (List ℕ)) (from to : ℕ) → IsPart text from to part → length part.now ≤ length text.now
-part_fits text part from to p =
-    omega (arith, ap length p.bytes, length-take (to - from) (drop from text.now), length-drop from text.now)
+-- a message is little longer than its text, for a line is no longer than that
+line_fits : (text : List ℕ) (n : ℕ) → length (nth_line text n) ≤ length text
+line_fits text zero = omega arith
+line_fits text (suc k) =
+    let at = offset_after text k in omega (arith, length-take ((span_from text at).end - at) (drop at text), length-drop at text)
 
-pub line_fits : (text part : Bor (List ℕ)) (n : ℕ) → IsNth text n part → length part.now ≤ length text.now
-line_fits text part zero p = part_fits text part 0 0 p
-line_fits text part (suc k) p = let at = offset_after text.now k in part_fits text part at (span_from text.now at).end p
+pub message_fits : (line : ℕ) (answer : TextAnswer) (text : List ℕ) → line < 4294967296
+    → length (message_with line answer (nth_line text line)) ≤ length text + 143
+message_fits line answer text l =
+    let part = nth_line text line in
+    let number = text_number answer in
+    let slip = plan_slip answer part in
+    let said = line_head line ++ words_of number in
+    omega (
+      arith,
+      length-append (said ++ slip_words slip) (shown_after part),
+      length-append said (slip_words slip),
+      length-append (line_head line) (words_of number),
+      line_head_short line l,
+      words_short number,
+      slip_short slip,
+      shown_little_longer part,
+      line_fits text line,
+    )

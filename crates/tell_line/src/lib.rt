@@ -1,10 +1,11 @@
 // What a person is told of a refused line of a plan text, in one line.
 #![tactic(auto)]
 
-ghost use Rattle.std.specs.Prelude.{◌≡◌, map, ◌≤◌, length};
+ghost use Rattle.std.specs.Prelude.{◌≡◌, map, length};
 ghost use Rattle.plan_text.specs.NthLine.{nth_line};
 ghost use Rattle.told_text.specs.PlanMessage.{visible, shown_after, message_with};
-ghost use Rattle.moves_text.specs.Buffer.{overlaid, overlaid_at};
+ghost use Rattle.moves_text.specs.Buffer.{overlaid};
+ghost use Rattle.write_lines.specs.Sink.{with_text};
 
 use plan_numbers::text_number;
 use plan_text::TextAnswer;
@@ -13,53 +14,58 @@ use tell_places::put_line_head;
 use tell_slip_words::put_slip;
 use tell_slips::plan_slip;
 use tell_words::put_words;
-use write_lines::put_text;
+use write_lines::Sink;
 
 // A byte that could upset a terminal is shown as `?`.
 fn visible(b: u8) -> u8
     ensures { result ≡ visible b }
 {
-    if b == b'\t' {
-        return b;
+    match b {
+        b'\t' | 32..=126 => b,
+        _ => b'?',
     }
-    if b < 32 {
-        return b'?';
-    }
-    if 126 < b { b'?' } else { b }
 }
 
-fn put_visible(part: &[u8], buffer: &mut [u8], at: usize) -> usize
-    requires { at ≤ 170 }
-    ensures { (result ≡ length (map visible part.now)) × (buffer.new ≡ overlaid_at at (map visible part.now) buffer.old) }
+#[tactic(auto, using(write_lines::proofs::Sinks::text_then, write_lines::proofs::Sinks::nothing_put, crate::proofs::Shown::shown_next))]
+fn put_visible(part: &[u8], out: &mut Sink<'_>)
+    ensures { out.new ≡ with_text (map visible part.now) out.old }
 {
-    let mut i = 0;
-    while i < part.len() {
-        put_text(&[visible(part[i])], buffer, at + i);
-        i += 1;
+    for b in part {
+        out.put(&[visible(*b)]);
     }
-    i
 }
 
 // The line that was refused, where there is one, and the end.
-fn put_shown(part: &[u8], buffer: &mut [u8], at: usize) -> usize
-    requires { at ≤ 160 }
-    ensures { (result ≡ length (shown_after part.now)) × (buffer.new ≡ overlaid_at at (shown_after part.now) buffer.old) }
+#[tactic(auto, using(write_lines::proofs::Sinks::text_then, crate::proofs::Shown::none_shown, crate::proofs::Shown::some_shown))]
+fn put_shown(part: &[u8], out: &mut Sink<'_>)
+    ensures { out.new ≡ with_text (shown_after part.now) out.old }
 {
-    if part.len() == 0 {
-        return put_text(b"\n", buffer, at);
+    if part.is_empty() {
+        out.put(b"\n");
+    } else {
+        out.put(b": ");
+        put_visible(part, out);
+        out.put(b"\n");
     }
-    let mut n = put_text(b": ", buffer, at);
-    n += put_visible(part, buffer, at + n);
-    n + put_text(b"\n", buffer, at + n)
 }
 
-// As much as fits of what a person is told of a text with this answer to this line, line 0 for none, and the length of all of it.
+// Of a text with this answer to this line, line 0 for none.
+#[tactic(auto, using(write_lines::proofs::Sinks::text_then, plan_text::proofs::NthLine::nth_bytes))]
+fn put_message(line: u32, answer: TextAnswer, text: &[u8], out: &mut Sink<'_>)
+    ensures { out.new ≡ with_text (message_with line answer (nth_line text.now line)) out.old }
+{
+    let part = nth_line(text, line);
+    put_line_head(line, out);
+    put_words(text_number(answer), out);
+    put_slip(plan_slip(answer, part), out);
+    put_shown(part, out);
+}
+
+// As much as fits of it, and the length of all of it.
 pub fn put_line_message(line: u32, answer: TextAnswer, text: &[u8], buffer: &mut [u8]) -> usize
     ensures { let told = message_with line answer (nth_line text.now line) in (result ≡ length told) × (buffer.new ≡ overlaid told buffer.old) }
 {
-    let part = nth_line(text, line);
-    let mut n = put_line_head(line, buffer, 0);
-    n += put_words(text_number(answer), buffer, n);
-    n += put_slip(plan_slip(answer, part), buffer, n);
-    n + put_shown(part, buffer, n)
+    let mut out = Sink { buffer, at: 0 };
+    put_message(line, answer, text, &mut out);
+    out.at
 }

@@ -6,7 +6,7 @@ ghost use Rattle.told_text.specs.PlanMessage.{text_message, plan_message, messag
 ghost use Rattle.moves_text.specs.Buffer.{overlaid};
 
 use moves_input::plan_length;
-use plan_numbers::text_number;
+use plan_bytes::LentPlan;
 use plan_text::TextAnswer;
 use read_lines::part_of;
 use read_plan::read;
@@ -18,11 +18,10 @@ pub fn text_message(text: &[u8], buffer: &mut [u8]) -> usize
     ensures { (result ≡ length (text_message text.now)) × (buffer.new ≡ overlaid (text_message text.now) buffer.old) }
 {
     let reading = read(text);
-    let answer = reading.answer;
-    if text_number(answer) == 0 {
-        return 0;
+    match reading.answer {
+        TextAnswer::Accepted => 0,
+        refusal => put_line_message(reading.line, refusal, text, buffer),
     }
-    put_line_message(reading.line, answer, text, buffer)
 }
 
 // Of a plan text and of its plan.
@@ -30,13 +29,16 @@ pub fn plan_message(text: &[u8], buffer: &mut [u8]) -> usize
     ensures { (result ≡ length (plan_message text.now)) × (buffer.new ≡ overlaid (plan_message text.now) buffer.old) }
 {
     let reading = read(text);
-    let answer = reading.answer;
-    if text_number(answer) < 1 {
-        let frame = reading.frame;
-        let stages = reading.stages;
-        return check_message(frame, &stages, buffer);
+    match reading.answer {
+        TextAnswer::Accepted => {
+            let plan = LentPlan {
+                frame: &reading.frame,
+                stages: &reading.stages,
+            };
+            check_message(plan, buffer)
+        }
+        refusal => put_line_message(reading.line, refusal, text, buffer),
     }
-    put_line_message(reading.line, answer, text, buffer)
 }
 
 // Of the plan in an input of `cellmoves`.

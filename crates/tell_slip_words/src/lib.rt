@@ -1,24 +1,25 @@
-// What is said of a slip, put into a buffer from an offset of it on.
+// What is said of a slip, put into a sink.
 #![tactic(auto)]
 
-ghost use Rattle.std.specs.Prelude.{◌≡◌, length};
+ghost use Rattle.std.specs.Prelude.{◌≡◌};
 ghost use Rattle.told_text.specs.Slips.{slip_words};
-ghost use Rattle.moves_text.specs.Buffer.{overlaid_at};
+ghost use Rattle.write_lines.specs.Sink.{with_text};
 
 use told_text::Slip;
-use write_lines::put_text;
+use write_lines::Sink;
 
-pub fn put_slip(slip: Slip, buffer: &mut [u8], at: usize) -> usize
-    ensures { (result ≡ length (slip_words slip)) × (buffer.new ≡ overlaid_at at (slip_words slip) buffer.old) }
+#[tactic(auto, using(write_lines::proofs::Sinks::nothing_put))]
+pub fn put_slip(slip: Option<Slip>, out: &mut Sink<'_>)
+    ensures { out.new ≡ with_text (slip_words slip) out.old }
 {
     match slip {
-        Slip::None => 0,
-        Slip::CarriageReturn => put_text(b" (here a CR before the LF)", buffer, at),
-        Slip::BeyondAscii => put_text(b" (here a byte beyond ASCII)", buffer, at),
-        Slip::Spaces => put_text(b" (here spaces where tabs should be)", buffer, at),
-        Slip::UnknownLetter => put_text(b" (here an unknown letter)", buffer, at),
-        Slip::FieldTooMany => put_text(b" (here a field too many)", buffer, at),
-        Slip::LongLine => put_text(b" (here more than 64 bytes)", buffer, at),
-        Slip::NoLineEnd => put_text(b" (here no LF)", buffer, at),
+        None => {}
+        Some(Slip::CarriageReturn) => out.put(b" (here a CR before the LF)"),
+        Some(Slip::BeyondAscii) => out.put(b" (here a byte beyond ASCII)"),
+        Some(Slip::Spaces) => out.put(b" (here spaces where tabs should be)"),
+        Some(Slip::UnknownLetter) => out.put(b" (here an unknown letter)"),
+        Some(Slip::FieldTooMany) => out.put(b" (here a field too many)"),
+        Some(Slip::LongLine) => out.put(b" (here more than 64 bytes)"),
+        Some(Slip::NoLineEnd) => out.put(b" (here no LF)"),
     }
 }

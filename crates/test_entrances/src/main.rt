@@ -19,8 +19,8 @@ mod table;
 
 use crate::plan::Plan;
 use admission::Table;
-use line::field;
-use read_lines::line_end;
+use line::numbers_of;
+use read_lines::LineReader;
 use std::io::Stdout;
 use streams::read_full;
 
@@ -31,39 +31,34 @@ struct Cell {
     table: Table,
 }
 
-fn empty() -> Cell {
-    Cell {
-        plan: plan::empty_plan(),
-        table: Table::empty(),
+impl Cell {
+    fn empty() -> Cell {
+        Cell {
+            plan: Plan::empty(),
+            table: Table::empty(),
+        }
     }
-}
 
-fn next(to: Stdout, c: Cell, letter: u8, line: &[u8]) -> Cell {
-    let x = field(line, 1);
-    let y = field(line, 2);
-    let z = field(line, 3);
-    let w = field(line, 4);
-    let plan = plan::with(c.plan, letter, x, y, z);
-    let t = table::with(c.table, letter, x, y, z, w);
-    Cell {
-        plan,
-        table: ask::asked(to, plan, t, letter, line, x, y, z, w),
+    // What a line sets, and what it asks.
+    fn follow(&mut self, to: Stdout, letter: u8, line: &[u8]) {
+        let numbers = numbers_of(line);
+        self.plan.set(letter, numbers);
+        table::set(&mut self.table, letter, numbers);
+        self.ask(to, letter, line, numbers);
     }
 }
 
 fn run(to: Stdout, text: &[u8]) {
-    let mut cell = empty();
+    let mut cell = Cell::empty();
     let mut kept = cell;
-    let mut at = 0;
-    while at < text.len() {
-        let end = line_end(text, at);
-        let letter = text[at];
-        let line = &text[at..end];
-        at = end + 1;
+    for line in LineReader::new(text) {
+        let Some(&letter) = line.bytes.first() else {
+            continue;
+        };
         if letter == b'=' {
             cell = kept;
         }
-        cell = next(to, cell, letter, line);
+        cell.follow(to, letter, line.bytes);
         if letter == b'>' {
             kept = cell;
         }

@@ -1,84 +1,54 @@
-// Tables set job by job, without asking an event. Only this file makes a table or reads its count and its jobs.
+// Tables set job by job, without asking an event.
+use crate::line::Numbers;
 use crate::plan::Plan;
 use admission::Table;
-use events::JobList;
 use model::Job;
 
 // Of the earliest loaded job.
-pub(crate) fn first_stage(t: Table) -> u32 {
-    let l = t.list;
-    let j = l.jobs[0];
-    j.stage
+pub(crate) fn first_stage(t: &Table) -> u32 {
+    t.list.jobs[0].stage
 }
 
-pub(crate) fn jobs(t: Table) -> u64 {
-    let l = t.list;
-    l.count as u64
+pub(crate) fn jobs(t: &Table) -> usize {
+    t.list.count
 }
 
 // The largest number of a line stands for the largest count.
-fn with_count(t: JobList, n: u32) -> JobList {
-    let mut next = t;
-    next.count = if n < 4294967295 {
-        n as usize
-    } else {
-        18446744073709551615
-    };
-    next
+fn count_of(n: u32) -> usize {
+    if n < u32::MAX { n as usize } else { usize::MAX }
 }
 
-// The slot counts from 1; the count of jobs stays.
-fn with_job(t: JobList, at: u32, number: u32, kind: u32, stage: u32) -> JobList {
-    let i = (at as usize + 63) % 64;
-    let mut next = t;
-    next.jobs[i] = Job {
-        number,
-        kind,
-        stage,
-    };
-    next
-}
-
-// J slot number type stage; N jobs.
-pub(crate) fn with(t: Table, letter: u8, x: u32, y: u32, z: u32, w: u32) -> Table {
-    let l = t.list;
+// J slot number type stage; N jobs. The slot counts from 1; the count of jobs stays.
+pub(crate) fn set(t: &mut Table, letter: u8, numbers: Numbers) {
+    let [x, y, z, w] = numbers;
     match letter {
-        b'E' => Table::empty(),
-        b'N' => Table {
-            list: with_count(l, x),
-        },
-        b'J' => Table {
-            list: with_job(l, x, y, z, w),
-        },
-        _ => t,
+        b'E' => *t = Table::empty(),
+        b'N' => t.list.count = count_of(x),
+        b'J' => {
+            t.list.jobs[(x as usize + 63) % 64] = Job {
+                number: y,
+                kind: z,
+                stage: w,
+            };
+        }
+        _ => {}
     }
 }
 
 // The jobs 1 to n, at most 64, of type 1, loaded in turn.
-pub(crate) fn loaded(p: Plan, t: Table, n: u32) -> Table {
-    let n = n % 65;
-    let mut t = t;
-    let mut job = 0;
-    while job < n {
-        job += 1;
-        t = t.load(p.frame, &p.stages, job, 1).table;
+pub(crate) fn load_many(t: &mut Table, p: &Plan, n: u32) {
+    for job in 1..=n % 65 {
+        *t = t.load(p.lent(), job, 1).table;
     }
-    t
 }
 
-fn same_job(a: Job, b: Job) -> bool {
-    (a.number == b.number) & (a.kind == b.kind) & (a.stage == b.stage)
+// A job has no `==`: a derived one would be a function of `model`, and the crates of definitions have none, so that they are quick to check.
+fn fields(j: &Job) -> [u32; 3] {
+    [j.number, j.kind, j.stage]
 }
 
 // Are they the same in every slot, those beyond the count too?
-pub(crate) fn same(a: Table, b: Table) -> bool {
-    let a = a.list;
-    let b = b.list;
-    let mut same = a.count == b.count;
-    let mut i = 0;
-    while i < 64 {
-        same = same & same_job(a.jobs[i], b.jobs[i]);
-        i += 1;
-    }
-    same
+pub(crate) fn same(a: &Table, b: &Table) -> bool {
+    let mut slots = a.list.jobs.iter().zip(&b.list.jobs);
+    a.list.count == b.list.count && slots.all(|(a, b)| fields(a) == fields(b))
 }

@@ -7,57 +7,35 @@ use admission::Table;
 use events::{Answer, Event};
 use moves_input::{event_of, plan_length};
 use moves_text::EventLine;
-use plan_bytes::Frame;
-use read_lines::{LineReader, part_of};
+use plan_bytes::LentPlan;
+use read_lines::{LineReader, TextLine, part_of};
 use read_plan::read;
 use std::io::Stdout;
 use streams::read_full;
 use table_lent::apply;
 use table_numbers::{answer_number, answer_place};
 
-fn put(to: Stdout, bytes: &[u8]) {
-    let _ = to.write_all(bytes);
-}
-
-fn number(to: Stdout, n: u64) {
-    put(to, b"\t");
-    let _ = to.print(n);
-}
-
-fn event_in(line: &[u8], ended: bool) -> Event {
-    let said = event_of(line, ended);
-    match said {
+fn event_in(line: TextLine<'_>) -> Event {
+    match event_of(line.bytes, line.ended) {
         EventLine::Given(event) => event,
-        EventLine::Skipped => Event::Load { job: 0, kind: 0 },
-        EventLine::Malformed => Event::Load { job: 0, kind: 0 },
+        EventLine::Skipped | EventLine::Malformed => Event::Load { job: 0, kind: 0 },
     }
 }
 
-fn tell(to: Stdout, line: &[u8], ended: bool, answer: Answer, table: Table) {
-    put(to, line);
-    if ended {
-        put(to, b"\tLF");
-    } else {
-        put(to, b"\tcut");
-    }
-    number(to, answer_number(answer) as u64);
-    number(to, answer_place(answer) as u64);
-    number(to, table.list.count as u64);
-    put(to, b"\n");
+fn tell(to: Stdout, line: TextLine<'_>, answer: Answer, table: &Table) {
+    let _ = to.write_all(line.bytes);
+    let end = if line.ended { "LF" } else { "cut" };
+    let number = answer_number(answer);
+    let place = answer_place(answer);
+    let _ = println!(to; "\t{end}\t{number}\t{place}\t{}", table.list.count);
 }
 
 // The host: it keeps the table from line to line.
-fn answer_lines(to: Stdout, frame: Frame, stages: &[u8], text: &[u8]) {
+fn answer_lines(to: Stdout, plan: LentPlan<'_>, text: &[u8]) {
     let mut table = Table::empty();
-    let mut reader = LineReader::new(text);
-    loop {
-        let line = reader.next();
-        if line.over {
-            return;
-        }
-        let event = event_in(line.bytes, line.ended);
-        let answer = apply(&mut table, frame, stages, event);
-        tell(to, line.bytes, line.ended, answer, table);
+    for line in LineReader::new(text) {
+        let answer = apply(&mut table, plan, event_in(line));
+        tell(to, line, answer, &table);
     }
 }
 
@@ -69,8 +47,10 @@ fn main(rt: HostRuntime) {
     let reading = read(part_of(text, 0, plan_end));
     answer_lines(
         rt.stdout(),
-        reading.frame,
-        &reading.stages,
+        LentPlan {
+            frame: &reading.frame,
+            stages: &reading.stages,
+        },
         part_of(text, plan_end + 2, n),
     );
 }

@@ -10,66 +10,54 @@ mod rows;
 mod space;
 mod table1;
 
+use plan_bytes::LentPlan;
 use std::io::Stdout;
 
-fn print_field(to: Stdout, n: u64, end: u8) {
-    let ends = [end];
-    let _ = to.print(n);
-    let _ = to.write_all(&ends);
-}
-
-fn print_counts(to: Stdout, marking: u64) {
-    let mut unit = 100000;
-    while 0 < unit {
-        print_field(to, rows::jobs_at(marking, unit), b'\t');
-        unit /= 10;
+fn print_state(to: Stdout, number: usize, marking: u64, kept: bool, emptied: bool) {
+    let _ = print!(to; "{number}\t");
+    for jobs in rows::counts(marking) {
+        let _ = print!(to; "{jobs}\t");
     }
-}
-
-fn print_sums(to: Stdout, marking: u64) {
-    print_field(to, rows::first_sum(marking), b'\t');
-    print_field(to, rows::second_sum(marking), b'\t');
-    print_field(to, rows::third_sum(marking), b'\t');
+    for sum in rows::sums(marking) {
+        let _ = print!(to; "{sum}\t");
+    }
+    let _ = println!(to; "{}\t{}", u8::from(kept), u8::from(emptied));
 }
 
 fn print_states(to: Stdout, found: u64, kept: u64, emptied: u64) {
-    let mut i = 0;
-    while i < 47 {
-        if found >> i & 1 == 1 {
-            let marking = table1::TABLE_1[i];
-            print_field(to, i as u64, b'\t');
-            print_counts(to, marking);
-            print_sums(to, marking);
-            print_field(to, kept >> i & 1, b'\t');
-            print_field(to, emptied >> i & 1, b'\n');
+    for (i, marking) in table1::TABLE_1.iter().enumerate() {
+        let state = 1 << i;
+        if found & state != 0 {
+            print_state(to, i, *marking, kept & state != 0, emptied & state != 0);
         }
-        i += 1;
     }
 }
 
-fn u32_to_u64(x: u32) -> u64 {
-    x as u64
-}
-
-fn print_count(to: Stdout, states: u64, end: u8) {
-    print_field(to, u32_to_u64(u64::count_ones(states)), end);
+// How many states each of the sets has.
+fn print_totals(to: Stdout, sets: [u64; 5]) {
+    let [reached, lacked, blocked, emptied, exact] = sets.map(u64::count_ones);
+    let _ = println!(to; "{reached}\t{lacked}\t{blocked}\t{emptied}\t{exact}");
 }
 
 fn main(rt: HostRuntime) {
     let to = rt.stdout();
     let frame = plan::frame();
     let stages = plan::stages();
-    let s = space::explored(frame, &stages);
+    let plan = LentPlan {
+        frame: &frame,
+        stages: &stages,
+    };
+    let s = space::explored(plan);
     let found = s.found;
-    let emptied = emptying::emptied(s, frame, &stages);
+    let emptied = emptying::emptied(&s, plan);
     let kept = rows::kept() & found;
+    let blocked = emptying::blocked(&s, plan);
     print_states(to, found, kept, emptied);
-    let _ = to.write_all(
-        b"reached, not in Table 1, blocked, emptied, emptied exactly if the rows are kept\n",
+    let _ = println!(to;
+        "reached, not in Table 1, blocked, emptied, emptied exactly if the rows are kept"
     );
-    print_count(to, found, b'\t');
-    print_count(to, found >> 47, b'\t');
-    print_count(to, emptying::blocked(s, frame, &stages), b'\t');
-    print_count(to, emptied, b'\t');
-    print_count(to, found ^ emptied ^ kept, b'\n');
+    print_totals(
+        to,
+        [found, found >> 47, blocked, emptied, found ^ emptied ^ kept],
+    );
 }

@@ -3,16 +3,13 @@ use plan_bytes::Frame;
 
 fn capacity() -> [u8; 32] {
     let mut capacity = [0; 32];
-    capacity[0] = 1;
-    capacity[1] = 2;
-    capacity[2] = 1;
+    capacity[..3].copy_from_slice(&[1, 2, 1]);
     capacity
 }
 
 fn lengths() -> [u8; 16] {
     let mut lengths = [0; 16];
-    lengths[0] = 3;
-    lengths[1] = 3;
+    lengths[..2].fill(3);
     lengths
 }
 
@@ -22,10 +19,8 @@ const ROUTES: [usize; 6] = [0, 1, 2, 2, 1, 0];
 // Each stage demands one unit, at the byte of its resource among its 64.
 pub(crate) fn stages() -> [u8; 8192] {
     let mut stages = [0; 8192];
-    let mut i = 0;
-    while i < 6 {
-        stages[i * 64 + ROUTES[i] % 32] = 1;
-        i += 1;
+    for (stage, resource) in ROUTES.iter().enumerate() {
+        stages[stage * 64 + resource % 32] = 1;
     }
     stages
 }

@@ -4,42 +4,51 @@ ghost use Rattle.std.specs.Prelude.{◌≤◌, ◌<◌};
 use crate::table1::TABLE_1;
 
 // The jobs at the stage that this power of ten stands for.
-pub(crate) fn jobs_at(marking: u64, unit: u64) -> u64
+fn jobs_at(marking: u64, unit: u64) -> u64
     requires { 0 < unit }
     ensures { result ≤ 9 }
 {
     marking / unit % 10
 }
 
-// Weights 1 0 0 0 3 0, bound 6.
-pub(crate) fn first_sum(marking: u64) -> u64 {
-    jobs_at(marking, 100000) + 3 * jobs_at(marking, 10)
+// The jobs at each of the six stages.
+pub(crate) fn counts(marking: u64) -> [u64; 6] {
+    [
+        jobs_at(marking, 100000),
+        jobs_at(marking, 10000),
+        jobs_at(marking, 1000),
+        jobs_at(marking, 100),
+        jobs_at(marking, 10),
+        jobs_at(marking, 1),
+    ]
 }
 
-// Weights 0 1 0 2 0 0, bound 3.
-pub(crate) fn second_sum(marking: u64) -> u64 {
-    jobs_at(marking, 10000) + 2 * jobs_at(marking, 100)
+// The sums of the three rows, of weights 1 0 0 0 3 0, 0 1 0 2 0 0 and 2 2 0 2 3 0.
+pub(crate) fn sums(marking: u64) -> [u64; 3] {
+    let first = jobs_at(marking, 100000);
+    let second = jobs_at(marking, 10000);
+    let fourth = jobs_at(marking, 100);
+    let fifth = jobs_at(marking, 10);
+    [
+        first + 3 * fifth,
+        second + 2 * fourth,
+        2 * (first + second + fourth) + 3 * fifth,
+    ]
 }
 
-// Weights 2 2 0 2 3 0, bound 8.
-pub(crate) fn third_sum(marking: u64) -> u64 {
-    let others = jobs_at(marking, 100000) + jobs_at(marking, 10000) + jobs_at(marking, 100);
-    2 * others + 3 * jobs_at(marking, 10)
-}
-
+// The bounds are 6, 3 and 8.
 fn keeps(marking: u64) -> bool {
-    first_sum(marking) <= 6 && second_sum(marking) <= 3 && third_sum(marking) <= 8
+    let [first, second, third] = sums(marking);
+    first <= 6 && second <= 3 && third <= 8
 }
 
 // The states of Table 1 that keep the rows.
 pub(crate) fn kept() -> u64 {
     let mut set = 0;
-    let mut i = 0;
-    while i < 47 {
-        if keeps(TABLE_1[i]) {
-            set = set | 1 << i;
+    for (i, marking) in TABLE_1.iter().enumerate() {
+        if keeps(*marking) {
+            set |= 1 << i;
         }
-        i += 1;
     }
     set
 }

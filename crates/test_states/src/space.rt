@@ -4,9 +4,13 @@ ghost use Rattle.std.specs.Prelude.{◌≤◌};
 
 use crate::table1::number_of;
 use admission::{Outcome, Table};
-use plan_bytes::Frame;
+use plan_bytes::LentPlan;
 
-// The states found, bit n of `found` for number n of Table 1 and bit 47 for one that it lacks, with a table of each.
+// The number of a state that Table 1 lacks.
+const LACKED: usize = 47;
+
+// The states found, bit n of `found` for the state with number n, with a table of each. A set of states is a
+// u64 throughout: what is asked of it, as another set's rest, is one operation of bits, and of a set of std a loop.
 #[derive(Clone, Copy)]
 pub(crate) struct Space {
     pub found: u64,
@@ -17,83 +21,66 @@ pub(crate) struct Space {
 fn unit(kind: u32, stage: u32) -> u64
     ensures { result ≤ 100000 }
 {
-    match kind {
-        0 => 0,
-        1 => match stage {
-            1 => 100000,
-            2 => 10000,
-            _ => 1000,
-        },
-        _ => match stage {
-            1 => 100,
-            2 => 10,
-            _ => 1,
-        },
+    match (kind, stage) {
+        (0, _) => 0,
+        (1, 1) => 100000,
+        (1, 2) => 10000,
+        (1, _) => 1000,
+        (_, 1) => 100,
+        (_, 2) => 10,
+        _ => 1,
     }
 }
 
-// The number of a table's state.
+// The number of a table's state, that of Table 1 if it has the state.
 fn state_of(t: Table) -> usize
     ensures { result ≤ 47 }
 {
-    let l = t.list;
     let mut marking = 0;
-    let mut i = 0;
-    while i < 64 {
-        let j = l.jobs[i];
+    for j in t.list.jobs {
         marking += unit(j.kind, j.stage);
-        i += 1;
     }
-    number_of(marking)
+    number_of(marking).unwrap_or(LACKED)
 }
 
-fn empty_cell() -> Space {
-    Space {
-        found: 1,
-        tables: [Table::empty(); 48],
+impl Space {
+    // The empty cell alone is found.
+    fn at_start() -> Space {
+        Space {
+            found: 1,
+            tables: [Table::empty(); 48],
+        }
     }
-}
 
-// With the state after an event, and its table, for any will do.
-fn with_outcome(s: Space, o: Outcome) -> Space {
-    let t = o.table;
-    let n = state_of(t);
-    let mut next = s;
-    next.found = s.found | 1 << n;
-    next.tables[n] = t;
-    next
-}
-
-// With the states that one event leads to from this table.
-fn followed(s: Space, frame: Frame, stages: &[u8], t: Table) -> Space {
-    let mut next = s;
-    let mut job = 1;
-    while job <= 5 {
-        next = with_outcome(next, t.load(frame, stages, job, 1));
-        next = with_outcome(next, t.load(frame, stages, job, 2));
-        next = with_outcome(next, t.advance(frame, stages, job));
-        next = with_outcome(next, t.unload(frame, stages, job));
-        job += 1;
+    // The state after an event is found, with its table, for any will do.
+    fn reach(&mut self, o: Outcome) {
+        let n = state_of(o.table);
+        self.found |= 1 << n;
+        self.tables[n] = o.table;
     }
-    next
-}
 
-fn u32_to_usize(x: u32) -> usize {
-    x as usize
+    // The states are found that one event leads to from this table.
+    fn follow(&mut self, plan: LentPlan<'_>, t: Table) {
+        for job in 1..=5 {
+            self.reach(t.load(plan, job, 1));
+            self.reach(t.load(plan, job, 2));
+            self.reach(t.advance(plan, job));
+            self.reach(t.unload(plan, job));
+        }
+    }
 }
 
 // Each state is followed once, the lowest number first.
-pub(crate) fn explored(frame: Frame, stages: &[u8]) -> Space {
-    let mut s = empty_cell();
+pub(crate) fn explored(plan: LentPlan<'_>) -> Space {
+    let mut s = Space::at_start();
     let mut done = 0;
-    let mut left: usize = 48;
-    while 0 < left {
-        let n = u32_to_usize(u64::trailing_zeros(s.found ^ done));
+    for _ in 0..48 {
+        let n = (s.found ^ done).trailing_zeros();
         if n < 48 {
-            s = followed(s, frame, stages, s.tables[n]);
-            done = done | 1 << n;
+            let table = s.tables[n as usize];
+            s.follow(plan, table);
+            done |= 1 << n;
         }
-        left -= 1;
     }
     s
 }
@@ -103,20 +90,13 @@ fn bit_of(t: Table) -> u64 {
     1 << state_of(t)
 }
 
-fn bit_after(o: Outcome) -> u64 {
-    let t = o.table;
-    bit_of(t)
-}
-
 // The set of the other states that an advance or an unload leads to from this table.
-pub(crate) fn moves_from(frame: Frame, stages: &[u8], t: Table) -> u64 {
+pub(crate) fn moves_from(plan: LentPlan<'_>, t: Table) -> u64 {
     let own = bit_of(t);
     let mut set = own;
-    let mut job = 1;
-    while job <= 5 {
-        set = set | bit_after(t.advance(frame, stages, job));
-        set = set | bit_after(t.unload(frame, stages, job));
-        job += 1;
+    for job in 1..=5 {
+        set |= bit_of(t.advance(plan, job).table);
+        set |= bit_of(t.unload(plan, job).table);
     }
     set ^ own
 }

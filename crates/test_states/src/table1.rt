@@ -1,5 +1,5 @@
 // Table 1 of source document 003.
-ghost use Rattle.std.specs.Prelude.{◌≤◌};
+ghost use Rattle.std.specs.Prelude.{◌<◌, IfSome};
 
 // The markings of the states 0 to 46, in the paper's order: a number whose decimal digits are the jobs per stage, type 1 then
 // type 2.
@@ -10,16 +10,9 @@ pub(crate) const TABLE_1: [u64; 47] = [
     000111, 021000, 011010, 010011, 000021, 121000, 111010, 011001, 001011, 010111, 000121,
 ];
 
-// The number of the state with this marking; 47 where the table lacks it.
-pub(crate) fn number_of(marking: u64) -> usize
-    ensures { result ≤ 47 }
+// The number of the state with this marking, if the table has it.
+pub(crate) fn number_of(marking: u64) -> Option<usize>
+    ensures { IfSome result (λ n. n < 47) }
 {
-    let mut i = 0;
-    while i < 47 {
-        if TABLE_1[i] == marking {
-            return i;
-        }
-        i += 1;
-    }
-    i
+    TABLE_1.iter().position(|m| *m == marking)
 }

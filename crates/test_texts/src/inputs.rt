@@ -4,31 +4,18 @@
 // back where one byte less is lent, and `kept`, or `changed` where the text differs or a byte beside it was changed. In the buffer
 // that is a byte too short nothing is put of an output, and all but the last byte of a message.
 use crate::checksum::of_bytes;
-use crate::lent::{put, put_within, restore, untouched};
-use crate::show::{number, write};
-use read_lines::{line_end, part_of};
+use crate::lent::{restore, untouched};
+use crate::show::write;
+use moves_run::answer_input;
+use read_lines::{LineReader, TextLine, part_of};
 use std::io::Stdout;
+use tell_plan::input_message;
 
-// The line from an offset on.
-fn line_from(to: Stdout, s: &[u8], at: usize) {
-    let line = part_of(s, at, line_end(s, at));
-    write(to, part_of(line, 0, 60));
-    write(to, b"\n");
-}
-
-// Where the last line begins.
-fn last_line(s: &[u8]) -> usize {
-    let mut at = 0;
-    let mut ended = false;
-    let mut i = 0;
-    while i < s.len() {
-        if ended {
-            at = i;
-        }
-        ended = s[i] == b'\n';
-        i += 1;
+fn line(to: Stdout, line: Option<TextLine<'_>>) {
+    if let Some(line) = line {
+        write(to, part_of(line.bytes, 0, 60));
     }
-    at
+    write(to, b"\n");
 }
 
 fn text(to: Stdout, s: &[u8]) {
@@ -36,74 +23,78 @@ fn text(to: Stdout, s: &[u8]) {
         write(to, s);
         return;
     }
-    write(to, b"long");
-    number(to, of_bytes(s));
-    write(to, b"\n");
-    line_from(to, s, 0);
-    line_from(to, s, last_line(s));
-}
-
-fn verdict(to: Stdout, kept: bool) {
-    if kept {
-        write(to, b"\tkept\n");
-    } else {
-        write(to, b"\tchanged\n");
-    }
+    let _ = println!(to; "long\t{}", of_bytes(s));
+    line(to, LineReader::new(s).next());
+    line(to, LineReader::new(s).last());
 }
 
 fn sum_of(out: &[u8], n: usize) -> u64 {
     of_bytes(part_of(out, 0, n))
 }
 
-// In a buffer that is long enough: the text, and its length.
-fn in_whole(to: Stdout, message: bool, label: &[u8], input: &[u8], out: &mut [u8]) -> usize {
-    let n = put(message, input, out);
+// In a buffer of so many bytes: whether so many bytes of the text are there, with this checksum, and behind them nothing.
+fn is_kept<P: Fn(&mut [u8]) -> usize>(
+    to: Stdout,
+    put: &P,
+    out: &mut [u8],
+    room: usize,
+    there: usize,
+    sum: u64,
+) -> bool
+    requires { P.IsAlwaysCallable put.now }
+{
+    let handed_back = match out.get_mut(..room) {
+        Some(part) => put(part),
+        None => 0,
+    };
+    let _ = print!(to; "\t{handed_back}");
+    let kept = sum_of(out, there) == sum && untouched(out, there);
+    restore(out, room);
+    kept
+}
+
+// What `put` puts: first in a buffer that is long enough, then in one of just its length, and in one of a byte less, where `cut` says how
+// many bytes of it are there.
+fn shown<P: Fn(&mut [u8]) -> usize, C: Fn(usize) -> usize>(
+    to: Stdout,
+    label: &str,
+    put: P,
+    cut: C,
+    out: &mut [u8],
+)
+    requires puts { P.IsAlwaysCallable put }
+    requires cuts { C.IsAlwaysCallable cut }
+{
+    let n = put(out);
     text(to, part_of(out, 0, n));
-    write(to, label);
-    number(to, n as u64);
-    n
-}
-
-// In a buffer of just that length: whether the text is the one with this checksum.
-fn in_exact(to: Stdout, message: bool, input: &[u8], out: &mut [u8], n: usize, sum: u64) -> bool {
-    number(to, put_within(message, input, out, n) as u64);
-    sum_of(out, n) == sum
-}
-
-// In a buffer of one byte less: whether a message is there up to its last byte, with this checksum, and of an output nothing.
-fn in_short(to: Stdout, message: bool, input: &[u8], out: &mut [u8], n: usize, sum: u64) -> bool {
-    number(to, put_within(message, input, out, n) as u64);
-    if message {
-        sum_of(out, n) == sum && untouched(out, n)
-    } else {
-        untouched(out, 0)
-    }
-}
-
-fn one_less(n: usize) -> usize {
-    if n == 0 { 0 } else { n - 1 }
-}
-
-fn shown(to: Stdout, message: bool, label: &[u8], input: &[u8], out: &mut [u8]) {
-    let n = in_whole(to, message, label, input, out);
-    let less = one_less(n);
+    let _ = print!(to; "{label}\t{n}");
+    let less = n.saturating_sub(1);
+    let there = cut(less);
     let sum = sum_of(out, n);
-    let sum_of_less = sum_of(out, less);
+    let sum_there = sum_of(out, there);
     let whole = untouched(out, n);
     restore(out, n);
-    let exact = in_exact(to, message, input, out, n, sum);
-    restore(out, n);
-    let short = in_short(to, message, input, out, less, sum_of_less);
-    restore(out, n);
-    verdict(to, whole && exact && short);
+    let exact = is_kept(to, &put, out, n, n, sum);
+    let short = is_kept(to, &put, out, less, there, sum_there);
+    let verdict = if whole && exact && short {
+        "kept"
+    } else {
+        "changed"
+    };
+    let _ = println!(to; "\t{verdict}");
 }
 
-// The input is the first n bytes of the buffer.
-pub(crate) fn case(to: Stdout, name: &[u8], buffer: &[u8], n: usize, out: &mut [u8]) {
-    let input = part_of(buffer, 0, n);
+// Where a byte is lacking, nothing is put of an output, and of a message what there is room for.
+pub(crate) fn case(to: Stdout, name: &[u8], input: &[u8], out: &mut [u8]) {
     write(to, name);
     write(to, b"\n");
-    shown(to, false, b"output", input, out);
-    shown(to, true, b"message", input, out);
+    shown(to, "output", |out| answer_input(input, out), |_| 0, out);
+    shown(
+        to,
+        "message",
+        |out| input_message(input, out),
+        |room| room,
+        out,
+    );
     write(to, b"\n");
 }

@@ -16,64 +16,59 @@ mod plan;
 mod show;
 mod text;
 
-use byte_slices::find;
-use read_lines::line_end;
+use read_lines::{LineReader, part_of};
 use std::io::Stdout;
 use streams::read_full;
 use text::{Buffer, put_text};
 
-fn case(to: Stdout, name: &[u8], line: &[u8], buffer: &mut Buffer, kept: usize) -> usize {
-    let n = put_text(line, name.len(), buffer, kept);
-    show::case(to, name, buffer, n);
-    kept
-}
-
-fn input(
+// The buffer that a case's text is put into, and how many bytes of it the next texts begin with; and the one that is lent to an entrance.
+#[derive(Drop)]
+struct Cases {
     to: Stdout,
-    name: &[u8],
-    line: &[u8],
-    buffer: &mut Buffer,
+    buffer: Buffer,
     kept: usize,
-    out: &mut [u8],
-) -> usize {
-    let n = put_text(line, name.len() + 1, buffer, kept);
-    inputs::case(to, name, buffer, n, out);
-    kept
+    out: [u8; moves_run::ENOUGH],
 }
 
-// Without a space the text is empty. Hands back how many bytes of the buffer the next texts begin with.
-fn next(to: Stdout, line: &[u8], buffer: &mut Buffer, kept: usize, out: &mut [u8]) -> usize {
-    let end = find(line, 0, line.len(), b' ');
-    if end == 0 {
-        return kept;
+impl Cases {
+    fn plan_text(&mut self, name: &[u8], notation: &[u8]) {
+        let n = put_text(notation, &mut self.buffer, self.kept);
+        show::case(self.to, name, part_of(&self.buffer, 0, n));
     }
-    match line[0] {
-        b'#' => kept,
-        b'>' => put_text(line, end, buffer, 0),
-        b'+' => input(to, &line[1..end], line, buffer, kept, out),
-        _ => case(to, &line[0..end], line, buffer, kept),
-    }
-}
 
-fn run(to: Stdout, cases: &[u8], buffer: &mut Buffer, out: &mut [u8]) {
-    let mut kept = 0;
-    let mut at = 0;
-    while at < cases.len() {
-        let end = line_end(cases, at);
-        kept = next(to, &cases[at..end], buffer, kept, out);
-        at = end + 1;
+    fn input(&mut self, name: &[u8], notation: &[u8]) {
+        let n = put_text(notation, &mut self.buffer, self.kept);
+        inputs::case(self.to, name, part_of(&self.buffer, 0, n), &mut self.out);
+    }
+
+    // Without a space the text is empty.
+    fn line(&mut self, line: &[u8]) {
+        let end = line.iter().position(|b| *b == b' ').unwrap_or(line.len());
+        let name = part_of(line, 0, end);
+        let notation = part_of(line, end + 1, line.len());
+        match name {
+            [] | [b'#', ..] => {}
+            [b'>', ..] => self.kept = put_text(notation, &mut self.buffer, 0),
+            [b'+', name @ ..] => self.input(name, notation),
+            _ => self.plan_text(name, notation),
+        }
     }
 }
 
-// The buffer that a case's text is put into, and the one that is lent to an entrance.
-fn run_in_buffers(to: Stdout, cases: &[u8]) {
-    let mut buffer = [0u8; 65600];
-    let mut out = [lent::UNTOUCHED; moves_run::ENOUGH];
-    run(to, cases, &mut buffer, &mut out);
+fn run(to: Stdout, lines: &[u8]) {
+    let mut cases = Cases {
+        to,
+        buffer: [0; 65600],
+        kept: 0,
+        out: [lent::UNTOUCHED; moves_run::ENOUGH],
+    };
+    for line in LineReader::new(lines) {
+        cases.line(line.bytes);
+    }
 }
 
 fn main(rt: HostRuntime) {
-    let mut cases = [0u8; 65536];
-    let n = read_full(&mut rt.stdin(), &mut cases).count;
-    run_in_buffers(rt.stdout(), &cases[..n]);
+    let mut lines = [0u8; 65536];
+    let n = read_full(&mut rt.stdin(), &mut lines).count;
+    run(rt.stdout(), &lines[..n]);
 }

@@ -6,12 +6,13 @@ use mathlib.Core.List.{List, [], ◌∷◌}
 use mathlib.Core.Path.{◌≡◌, refl}
 use lib.Dec.{eqb}
 use lib.ListN.{length}
+use Rattle.std.proofs.lemmas.List.Sums.{sum_by-cons}
 use Rattle.plan_text.specs.Lines.{tab, wider, split_by, columns, fields_in}
 use Rattle.told_text.specs.Slips.{tabs_in}
 
 parts_counted : (bytes : List ℕ) → length (split_by tab bytes) ≡ suc (tabs_in bytes)
 parts_counted [] = refl
-parts_counted (b ∷ bs) = step (eqb b tab) (split_by tab bs) (parts_counted bs)
+parts_counted (b ∷ bs) = rw (sum_by-cons (λ b. cond (eqb b tab) 1 0) b bs) (step (eqb b tab) (split_by tab bs) (parts_counted bs))
   where
     step : (here : Bool) (ps : List (List ℕ)) → length ps ≡ suc (tabs_in bs)
         → length (cond here ([] ∷ ps) (wider b ps)) ≡ suc (cond here 1 0 + tabs_in bs)

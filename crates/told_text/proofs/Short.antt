@@ -6,6 +6,7 @@ use mathlib.Core.List.{List, [], ◌∷◌, ◌++◌}
 use mathlib.Core.Path.{◌≡◌, refl}
 use lib.Dec.{eqb}
 use lib.ListN.{length, length-append}
+use Rattle.std.specs.Prelude.{Option, None, Some}
 use Rattle.model.specs.Numbers.{Each}
 use Rattle.model.proofs.Decide.{Decides, holding, failing, holds, decides_eq, decides_le, decides_each}
 use Rattle.moves_text.specs.Quoted.{quoted}
@@ -14,9 +15,9 @@ use Rattle.moves_text.proofs.Decimals.{decimal_short}
 use Rattle.told_text.specs.Words.{Worded, worded, words_in, words_of}
 use Rattle.told_text.specs.Slips.{slip_words}
 use Rattle.told_text.specs.declared.Slip.{Slip}
-use Rattle.told_text.specs.declared.Slip.TheVariants.{None, CarriageReturn, BeyondAscii, Spaces, UnknownLetter, FieldTooMany, LongLine, NoLineEnd}
-use Rattle.told_text.specs.PlanMessage.{line_head, check_place}
-use Rattle.told_text.specs.EventMessage.{event_head, event_place}
+use Rattle.told_text.specs.declared.Slip.TheVariants.{CarriageReturn, BeyondAscii, Spaces, UnknownLetter, FieldTooMany, LongLine, NoLineEnd}
+use Rattle.told_text.specs.PlanMessage.{line_head, check_place, check_message_with}
+use Rattle.told_text.specs.EventMessage.{event_head, event_place, told_line}
 
 pub words_short : (n : ℕ) → length (words_of n) ≤ 83
 unfolding words_of
@@ -31,15 +32,15 @@ words_short n = go worded (holds (decides_each (λ (w : Worded). decides_le (len
     go [] h = omega arith
     go (w ∷ ws) h = step w ws h.0 (go ws h.1) (decides_eq n w.number)
 
-pub slip_short : (s : Slip) → length (slip_words s) ≤ 40
+pub slip_short : (s : Option Slip) → length (slip_words s) ≤ 40
 slip_short None = omega arith
-slip_short CarriageReturn = omega arith
-slip_short BeyondAscii = omega arith
-slip_short Spaces = omega arith
-slip_short UnknownLetter = omega arith
-slip_short FieldTooMany = omega arith
-slip_short LongLine = omega arith
-slip_short NoLineEnd = omega arith
+slip_short (Some CarriageReturn) = omega arith
+slip_short (Some BeyondAscii) = omega arith
+slip_short (Some Spaces) = omega arith
+slip_short (Some UnknownLetter) = omega arith
+slip_short (Some FieldTooMany) = omega arith
+slip_short (Some LongLine) = omega arith
+slip_short (Some NoLineEnd) = omega arith
 
 -- numbers of 32 and of 64 bits
 small_short : (n : ℕ) → n < 4294967296 → length (decimal n) ≤ 10
@@ -70,3 +71,20 @@ event_place_short number place excess p e = go (eqb number 18) (eqb number 19)
     go true b = simp length-append (omega (arith, small_short place p))
     go false true = simp length-append (omega (arith, small_short place p, small_short excess e))
     go false false = omega arith
+
+-- so a line fits a buffer of so many bytes
+pub told_line_short : (ordinal number : ℕ) (more : List ℕ) → ordinal < 18446744073709551616 → length more ≤ 40 → length (told_line ordinal number more) ≤ 192
+told_line_short ordinal number more o m = simp length-append (omega (arith, decimal_short 20 ordinal (omega arith) (omega arith), words_short number))
+
+pub check_message_short : (number first second : ℕ) → first < 4294967296 → second < 4294967296 → length (check_message_with number first second) ≤ 192
+check_message_short number first second f s =
+    let place = check_place number first second in
+    let said = quoted "the cell may deadlock although moves are admitted: " ++ words_of number in
+    omega (
+      arith,
+      length-append (said ++ place) (quoted "\n"),
+      length-append said place,
+      length-append (quoted "the cell may deadlock although moves are admitted: ") (words_of number),
+      words_short number,
+      check_place_short number first second f s,
+    )

@@ -1,6 +1,6 @@
 -- What a person is told of a refused event, in one line: its ordinal, what the answer's number means, and the place in words: which
 -- resource, or which row and by how much it would be exceeded, or the slip in a malformed line.
-use Rattle.std.specs.Prelude.{ℕ, cond, List, [], ◌++◌, eqb}
+use Rattle.std.specs.Prelude.{ℕ, cond, List, [], ◌++◌, eqb, Option}
 use Rattle.model.specs.Jobs.{excess_of}
 use Rattle.model.specs.declared.Plan.{Plan}
 use Rattle.events.specs.JobList.{jobs_of}
@@ -38,5 +38,5 @@ event_message p t ordinal e =
     cond (eqb a.0 0) [] (told_line ordinal a.0 (event_place a.0 a.1 (excess_after p t e a.1)))
 
 -- of a malformed line
-abbrev pub malformed_message : ℕ → Slip → List ℕ
+abbrev pub malformed_message : ℕ → Option Slip → List ℕ
 malformed_message ordinal slip = told_line ordinal malformed (slip_words slip)

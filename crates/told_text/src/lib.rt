@@ -4,7 +4,6 @@
 // A common slip in a line that is refused for its form.
 #[derive(Clone, Copy)]
 pub enum Slip {
-    None,
     CarriageReturn,
     BeyondAscii,
     Spaces,

@@ -1,87 +1,111 @@
-// Text, numbers and the lines of the output of `cellmoves`, put into a buffer from an offset of it on. What does not fit is left
-// out, and the length is that of the whole: so a buffer of no bytes measures.
+// Text, numbers and the lines of the output of `cellmoves`, put into a sink. What does not fit is left out, and the length is that of
+// the whole: so a buffer of no bytes measures.
 #![tactic(auto)]
 
-ghost use Rattle.std.specs.Prelude.{◌≡◌, ◌∷◌, [], ◌++◌, ◌+◌, ◌≤◌, length};
+ghost use Rattle.std.specs.Prelude.{◌≡◌, ◌∷◌, [], ◌++◌, length};
 ghost use Rattle.moves_text.specs.Decimals.{decimal};
 ghost use Rattle.moves_text.specs.OutputLines.{plan_line, check_line, event_line};
 ghost use Rattle.moves_text.specs.Buffer.{overlaid, overlaid_at};
+ghost use Rattle.write_lines.specs.Sink.{with_text};
 
-use arithmetic::at_most;
 use byte_slices::copy;
 use io::decimal;
+
+// A buffer with the text put into it so far: as much of it as fits, and the length of all of it.
+#[derive(Drop)]
+pub struct Sink<'a> {
+    pub buffer: &'a mut [u8],
+    pub at: usize,
+}
+
+impl<'a> Sink<'a> {
+    // What does not fit is left out, and the length is that of the whole.
+    #[tactic(auto, unfolding(crate::specs::Sink::with_text))]
+    pub fn put(&mut self, text: &[u8])
+        ensures { self.new ≡ with_text text.now self.old }
+    {
+        if self.at < self.buffer.len() {
+            copy(text, &mut self.buffer[self.at..]);
+        }
+        self.at = self.at.saturating_add(text.len());
+    }
+
+    // One byte more.
+    #[tactic(auto, unfolding(crate::specs::Sink::with_text))]
+    pub fn put_byte(&mut self, byte: u8)
+        ensures { self.new ≡ with_text (byte ∷ []) self.old }
+    {
+        if self.at < self.buffer.len() {
+            self.buffer[self.at] = byte;
+        }
+        self.at = self.at.saturating_add(1);
+    }
+
+    // In digits, without leading zeros.
+    #[tactic(auto, using(moves_text::proofs::Decimals::fewest_digits))]
+    pub fn put_decimal(&mut self, n: u64)
+        ensures { self.new ≡ with_text (decimal n) self.old }
+    {
+        let mut digits = [0u8; 20];
+        let k = decimal(n, &mut digits);
+        self.put(&digits[..k]);
+    }
+
+    // A number and the byte after it.
+    #[tactic(auto, using(crate::proofs::Sinks::text_then))]
+    fn put_field(&mut self, n: u64, after: u8)
+        ensures { self.new ≡ with_text (decimal n ++ after ∷ []) self.old }
+    {
+        self.put_decimal(n);
+        self.put_byte(after);
+    }
+
+    // `P`, the plan's answer, its line.
+    #[tactic(auto, using(crate::proofs::Sinks::text_then, std::proofs::lemmas::List::append_assoc))]
+    pub fn put_plan_line(&mut self, number: u32, line: u32)
+        ensures { self.new ≡ with_text (plan_line number line) self.old }
+    {
+        self.put(b"P\t");
+        self.put_field(u64::from(number), b'\t');
+        self.put_field(u64::from(line), b'\n');
+    }
+
+    // `Q`, the check's answer and its two places.
+    #[tactic(auto, using(crate::proofs::Sinks::text_then, std::proofs::lemmas::List::append_assoc))]
+    pub fn put_check_line(&mut self, number: u32, first: u32, second: u32)
+        ensures { self.new ≡ with_text (check_line number first second) self.old }
+    {
+        self.put(b"Q\t");
+        self.put_field(u64::from(number), b'\t');
+        self.put_field(u64::from(first), b'\t');
+        self.put_field(u64::from(second), b'\n');
+    }
+
+    // An event's ordinal, its answer, its place, and the jobs active afterwards. In 64 bits, since a program may go on answering.
+    #[tactic(auto, using(crate::proofs::Sinks::text_then, std::proofs::lemmas::List::append_assoc))]
+    pub fn put_event_line(&mut self, ordinal: u64, number: u32, place: u32, active: u64)
+        ensures { self.new ≡ with_text (event_line ordinal number place active) self.old }
+    {
+        self.put_field(ordinal, b'\t');
+        self.put_field(u64::from(number), b'\t');
+        self.put_field(u64::from(place), b'\t');
+        self.put_field(active, b'\n');
+    }
+}
 
 // From the start of the buffer on.
 fn lay(text: &[u8], buffer: &mut [u8]) -> usize
     ensures { (result ≡ length text.now) × (buffer.new ≡ overlaid text.now buffer.old) }
 {
-    let n = at_most(text.len(), buffer.len());
+    let n = text.len().min(buffer.len());
     copy(&text[..n], buffer);
     text.len()
 }
 
+// From an offset of a buffer on, by whoever has no text before it.
 pub fn put_text(text: &[u8], buffer: &mut [u8], at: usize) -> usize
     ensures { (result ≡ length text.now) × (buffer.new ≡ overlaid_at at text.now buffer.old) }
 {
-    let from = at_most(at, buffer.len());
+    let from = at.min(buffer.len());
     lay(text, &mut buffer[from..])
-}
-
-// In digits, without leading zeros.
-pub fn put_decimal(n: u64, buffer: &mut [u8], at: usize) -> usize
-    ensures { (result ≡ length (decimal n)) × (buffer.new ≡ overlaid_at at (decimal n) buffer.old) }
-{
-    let mut digits = [0u8; 20];
-    let k = decimal(n, &mut digits);
-    put_text(&digits[..k], buffer, at)
-}
-
-// A number and the byte after it; the offset after both.
-fn put_field(n: u64, after: u8, buffer: &mut [u8], at: usize) -> usize
-    requires { at ≤ 9223372036854776000 }
-    ensures value { (result ≡ at + length (decimal n ++ after ∷ [])) × (buffer.new ≡ overlaid_at at (decimal n ++ after ∷ []) buffer.old) }
-    ensures upper_bound { result ≤ at + 21 }
-{
-    let to = at + put_decimal(n, buffer, at);
-    to + put_text(&[after], buffer, to)
-}
-
-// `P`, the plan's answer, its line.
-pub fn put_plan_line(number: u32, line: u32, buffer: &mut [u8], at: usize) -> usize
-    ensures { (result ≡ length (plan_line number line)) × (buffer.new ≡ overlaid_at at (plan_line number line) buffer.old) }
-{
-    let from = at_most(at, buffer.len());
-    let mut to = from + put_text(b"P\t", buffer, from);
-    to = put_field(number as u64, b'\t', buffer, to);
-    put_field(line as u64, b'\n', buffer, to) - from
-}
-
-// `Q`, the check's answer and its two places.
-pub fn put_check_line(number: u32, first: u32, second: u32, buffer: &mut [u8], at: usize) -> usize
-    ensures { (result ≡ length (check_line number first second)) × (buffer.new ≡ overlaid_at at (check_line number first second) buffer.old) }
-{
-    let from = at_most(at, buffer.len());
-    let mut to = from + put_text(b"Q\t", buffer, from);
-    to = put_field(number as u64, b'\t', buffer, to);
-    to = put_field(first as u64, b'\t', buffer, to);
-    put_field(second as u64, b'\n', buffer, to) - from
-}
-
-// An event's ordinal, its answer, its place, and the jobs active afterwards. In 64 bits, since a program may go on answering.
-pub fn put_event_line(
-    ordinal: u64,
-    number: u32,
-    place: u32,
-    active: u64,
-    buffer: &mut [u8],
-    at: usize,
-) -> usize
-    ensures value { (result ≡ length (event_line ordinal number place active)) × (buffer.new ≡ overlaid_at at (event_line ordinal number place active) buffer.old) }
-    ensures upper_bound { result ≤ 84 }
-{
-    let from = at_most(at, buffer.len());
-    let mut to = put_field(ordinal, b'\t', buffer, from);
-    to = put_field(number as u64, b'\t', buffer, to);
-    to = put_field(place as u64, b'\t', buffer, to);
-    put_field(active, b'\n', buffer, to) - from
 }

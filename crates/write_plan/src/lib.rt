@@ -1,18 +1,19 @@
 // The writer of plan texts: one pass measures the canonical text and another writes it, both by the same function.
 #![tactic(auto)]
 
-ghost use Rattle.std.specs.Prelude.{[], ◌≡◌, ◌≤◌, length};
+ghost use Rattle.std.specs.Prelude.{[], ◌≡◌, length, min};
 ghost use Rattle.plan_text.specs.Meaning.{line};
-ghost use Rattle.moves_text.specs.Buffer.{overlaid};
-ghost use Rattle.plan_bytes.specs.Over.{plan_read, plan_over};
+ghost use Rattle.plan_bytes.specs.Over.{plan_read, plan_of};
 ghost use Rattle.canonical_text.specs.CanonicalText.{list_to, section_records, text_of, canonical_text};
 ghost use Rattle.canonical_text.specs.Writing.{writing, buffer_after};
+ghost use Rattle.write_lines.specs.Sink.{with_text};
 
 use canonical_text::{WriteAnswer, Writing};
-use plan_bytes::Frame;
+use plan_bytes::{Frame, LentPlan};
 use plan_soundness::is_sound;
 use plan_text::Record;
 use write_entries::{put_bounds, put_entries};
+use write_lines::Sink;
 use write_record::put_record;
 use write_stages::{put_demands, put_weights};
 
@@ -42,45 +43,43 @@ fn counts_of(resources: u32, types: u32, rows: u32) -> Record
     }
 }
 
-// As much as fits of C, R and T, which go by the frame alone, and the length of all of them.
-fn put_lists(frame: Frame, buffer: &mut [u8]) -> usize
-    ensures value { (result ≡ length (text_of (list_to 3 (section_records (plan_read frame []))))) × (buffer.new ≡ overlaid (text_of (list_to 3 (section_records (plan_read frame [])))) buffer.old) }
-    ensures upper_bound { result ≤ 23506 }
+// C, R and T, which go by the frame alone.
+fn put_lists(frame: &Frame, out: &mut Sink<'_>)
+    ensures { out.new ≡ with_text (text_of (list_to 3 (section_records (plan_read frame.now [])))) out.old }
 {
-    let resources = frame.resources as u32;
-    let types = frame.types as u32;
-    let rows = frame.rows as u32;
-    let mut n = put_record(counts_of(resources, types, rows), buffer, 0);
-    n += put_entries(records_of(2), &frame.capacity, resources, buffer, n);
-    n + put_entries(records_of(3), &frame.lengths, types, buffer, n)
+    let resources = u32::from(frame.resources);
+    let types = u32::from(frame.types);
+    let rows = u32::from(frame.rows);
+    put_record(counts_of(resources, types, rows), out);
+    put_entries(records_of(2), &frame.capacity, resources, out);
+    put_entries(records_of(3), &frame.lengths, types, out);
 }
 
-// As much of the canonical text as fits, and the length of all of it.
-fn put_canonical(frame: Frame, stages: &[u8], buffer: &mut [u8]) -> usize
-    ensures { (result ≡ length (canonical_text (plan_over frame stages.now))) × (buffer.new ≡ overlaid (canonical_text (plan_over frame stages.now)) buffer.old) }
+fn put_canonical(plan: LentPlan<'_>, out: &mut Sink<'_>)
+    ensures { out.new ≡ with_text (canonical_text (plan_of plan.entry)) out.old }
 {
-    let mut n = put_lists(frame, buffer);
-    n += put_demands(frame, stages, buffer, n);
-    n += put_bounds(&frame.bound, frame.rows as u32, buffer, n);
-    n += put_weights(frame, stages, buffer, n);
-    n + put_entries(
-        records_of(7),
-        &frame.rank,
-        frame.resources as u32,
-        buffer,
-        n,
-    )
+    let resources = u32::from(plan.frame.resources);
+    let rows = u32::from(plan.frame.rows);
+    put_lists(plan.frame, out);
+    put_demands(plan, out);
+    put_bounds(&plan.frame.bound, rows, out);
+    put_weights(plan, out);
+    put_entries(records_of(7), &plan.frame.rank, resources, out);
 }
 
-// The length of the canonical text; what is put is not kept.
-fn canonical_length(frame: Frame, stages: &[u8]) -> usize
-    ensures { result ≡ length (canonical_text (plan_over frame stages.now)) }
+// The length of the canonical text, as far as 64 bits count: put where there is no room, it is only measured.
+fn canonical_length(plan: LentPlan<'_>) -> usize
+    ensures { result ≡ min (length (canonical_text (plan_of plan.entry))) 18446744073709551615 }
 {
-    let mut scratch = [0u8; 1];
-    put_canonical(frame, stages, &mut scratch)
+    let mut out = Sink {
+        buffer: &mut [],
+        at: 0,
+    };
+    put_canonical(plan, &mut out);
+    out.at
 }
 
-// Nothing was written.
+// Nothing was written. The answer stands beside the length, since `writing` promises both.
 fn refused(answer: WriteAnswer) -> Writing
     ensures { result ≡ record { answer = answer; length = 0 } }
 {
@@ -89,20 +88,21 @@ fn refused(answer: WriteAnswer) -> Writing
 
 // The buffer then begins with the canonical text of the plan. It is left as it is where the plan is not sound, and where the canonical text is longer
 // than the buffer or than 65,536 bytes.
-pub fn write_plan(frame: Frame, stages: &[u8], buffer: &mut [u8]) -> Writing
-    ensures { (result ≡ writing (plan_over frame stages.now) buffer.old) × (buffer.new ≡ buffer_after (plan_over frame stages.now) buffer.old) }
+pub fn write_plan(plan: LentPlan<'_>, buffer: &mut [u8]) -> Writing
+    ensures { (result ≡ writing (plan_of plan.entry) buffer.old) × (buffer.new ≡ buffer_after (plan_of plan.entry) buffer.old) }
 {
-    if !is_sound(frame, stages) {
+    if !is_sound(plan) {
         return refused(WriteAnswer::UnsoundPlan);
     }
-    let size = canonical_length(frame, stages);
+    let size = canonical_length(plan);
     if buffer.len() < size {
         return refused(WriteAnswer::NoRoom);
     }
     if 65536 < size {
         return refused(WriteAnswer::NoRoom);
     }
-    put_canonical(frame, stages, buffer);
+    let mut out = Sink { buffer, at: 0 };
+    put_canonical(plan, &mut out);
     Writing {
         answer: WriteAnswer::Written,
         length: size,

@@ -1,15 +1,12 @@
--- A line grows byte by byte behind its first ones, and its fields, each behind a tab, come to the record's text.
-use Prim.Native.Nat.{ℕ, ◌+◌, ◌/◌, ◌%◌, ◌≤◌, ◌<◌}
+-- A line grows byte by byte behind its first ones.
+use Prim.Native.Nat.{ℕ, ◌+◌, ◌≤◌, ◌<◌}
 use native.Mathlib.Numerals.{add-one}
 use native.Mathlib.Omega.{arith}
-use mathlib.Core.List.{List, [], ◌∷◌, ◌++◌, map, map-append, append_assoc, append-nil}
-use mathlib.Core.Path.{◌≡◌, refl, sym, ap, ◌∙◌}
-use lib.ListN.{length, take, drop, get_or, set, length-set, length-append, take-append-drop}
-use lib.Seq.{take-suc, take-suc-set, take_all, length-take-le, take_at}
-use Rattle.plan_text.specs.Lines.{line_end, tab}
-use Rattle.moves_text.specs.Decimals.{decimal, line_with}
+use mathlib.Core.List.{List, [], ◌∷◌, ◌++◌, append_assoc}
+use mathlib.Core.Path.{◌≡◌, refl, ap, ◌∙◌}
+use lib.ListN.{length, take, drop, set, length-set, length-append, take-append-drop}
+use lib.Seq.{take-suc-set, take_all, length-take-le, take_at}
 use Rattle.moves_text.specs.Buffer.{overlaid_at}
-use Rattle.moves_text.proofs.Decimals.{fewest_digits, glyph_digit}
 
 -- one byte more
 pub pushed : (l : List ℕ) (i a : ℕ) {done : List ℕ} → i < length l → take i l ≡ done → take (i + 1) (set l i a) ≡ done ++ a ∷ []
@@ -36,38 +33,3 @@ laid_behind l i text {k} h size laid =
     let e : length (take i l ++ text) ≡ i + k = omega (arith, length-append (take i l) text) in
     rw (laid, take_all (length (drop i l)) text room, ← append_assoc (take i l) text (drop (length text) (drop i l)))
     (take_at (take i l ++ text) (drop (length text) (drop i l)) (i + k) e)
-
--- numbers of one to three digits
-pub one_digit : (n : ℕ) → n < 10 → decimal n ≡ (48 + n) ∷ []
-one_digit n h =
-    let e : n % 10 ≡ n = omega arith in
-    sym (fewest_digits n 1 (omega arith, omega arith, λ many. absurd (omega arith))) ∙ rw (e, glyph_digit n h) refl
-
-pub two_digits : (n : ℕ) → 10 ≤ n → n < 100 → decimal n ≡ (48 + n / 10) ∷ (48 + n % 10) ∷ []
-two_digits n low high =
-    let e : n / 10 % 10 ≡ n / 10 = omega arith in
-    sym (fewest_digits n 2 (omega arith, omega arith, λ many. low))
-    ∙ rw (e, glyph_digit (n / 10) (omega arith), glyph_digit (n % 10) (omega arith)) refl
-
-pub three_digits : (n : ℕ) → 100 ≤ n → n < 1000 → decimal n ≡ (48 + n / 10 / 10) ∷ (48 + n / 10 % 10) ∷ (48 + n % 10) ∷ []
-three_digits n low high =
-    let e : n / 10 / 10 % 10 ≡ n / 10 / 10 = omega arith in
-    sym (fewest_digits n 3 (omega arith, omega arith, λ many. low))
-    ∙ rw (e, glyph_digit (n / 10 / 10) (omega arith), glyph_digit (n / 10 % 10) (omega arith), glyph_digit (n % 10) (omega arith)) refl
-
--- fields, each behind a tab
-abbrev pub tabbed : List (List ℕ) → List ℕ
-tabbed [] = []
-tabbed (f ∷ fs) = tab ∷ f ++ tabbed fs
-
-tabbed_more : (fs : List (List ℕ)) (f : List ℕ) → tabbed (fs ++ f ∷ []) ≡ tabbed fs ++ tab ∷ f
-tabbed_more [] f = simp append-nil refl
-tabbed_more (g ∷ fs) f = rw (tabbed_more fs f, append_assoc) refl
-
--- one number more
-pub numbers_more : (xs : List ℕ) (i : ℕ) → i < length xs → tabbed (map decimal (take (i + 1) xs)) ≡ tabbed (map decimal (take i xs)) ++ tab ∷ decimal (get_or xs i 0)
-numbers_more xs i h = rw (add-one, take-suc xs i 0 h, map-append decimal (take i xs) (get_or xs i 0 ∷ [])) (tabbed_more (map decimal (take i xs)) (decimal (get_or xs i 0)))
-
-pub line_tabbed : (f : List ℕ) (fs : List (List ℕ)) → (f ++ tabbed fs) ++ line_end ∷ [] ≡ line_with (f ∷ fs)
-line_tabbed f [] = rw append-nil refl
-line_tabbed f (g ∷ fs) = rw (append_assoc, ← line_tabbed g fs) refl

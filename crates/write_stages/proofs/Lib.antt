@@ -1,2 +1,3 @@
--- The records that are put are those of the plan's stages.
+-- The records that are put are those of the plan's stages, and how long their text is at most.
 pub mod StageRecords
+pub mod Lengths

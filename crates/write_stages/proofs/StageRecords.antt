@@ -4,16 +4,15 @@ use Prim.Native.Nat.{ℕ, zero, suc, ◌+◌, ◌-◌, ◌≤◌, ◌<◌}
 use native.Mathlib.Numerals.{add-one}
 use native.Mathlib.Omega.{arith}
 use mathlib.Core.List.{List, []}
-use mathlib.Core.Logic.{◌≢◌, ⊎_elim}
+use mathlib.Core.Logic.{◌≢◌}
 use mathlib.Core.Path.{◌≡◌, refl, sym, ap, ◌∙◌}
 use lib.ListN.{length}
-use borrow.Author.Tests.{eq-eqb, ne_eqb}
+use Rattle.std.specs.Prelude.{Option, None, Some}
 use Rattle.model.specs.Limits.{max_all_stages}
 use Rattle.model.specs.Numbers.{InRange, at, sum_to}
 use Rattle.model.specs.Plan.{no_stage, length_of, stage_of, demand_of, weight_of}
 use Rattle.model.specs.declared.Plan.{Plan}
 use Rattle.model.specs.declared.Stage.{Stage}
-use Rattle.model.proofs.Decide.{decided, decides_eq}
 use Rattle.model.proofs.Lists.{zeros_at}
 use Rattle.internals.specs.Internals.{stage_index}
 use Rattle.internals.proofs.StageIndex.{stage_named}
@@ -38,32 +37,22 @@ list_none (suc n) f e = rw (list_none n f e, e (suc n)) refl
 pub first_next : (f : ℕ → ℕ) (t : ℕ) {first count : ℕ} → first ≡ sum_to t f → count ≡ f (t + 1) → first + count ≡ sum_to (t + 1) f
 first_next f t here many = rw (here, many, add-one) refl
 
--- of one stage
-module _ (resources row t k : ℕ) (s : Stage) where
-  pub of_demands : row ≡ 0 → stage_records resources row t k s ≡ entry_records (S t k) resources s.demand
-  unfolding stage_records
-  of_demands h = rw (eq-eqb row 0 h) refl
-
-  pub of_weight : row ≢ 0 → stage_records resources row t k s ≡ valued (at s.weight row) (A row t k)
-  unfolding stage_records
-  of_weight h = rw (ne_eqb row 0 h) refl
-
-  -- that demands and weighs nothing
-  records_none : ((r : ℕ) → at s.demand r ≡ 0) → ((w : ℕ) → at s.weight w ≡ 0) → stage_records resources row t k s ≡ []
-  records_none none light =
-      ⊎_elim (λ (e : row ≡ 0). of_demands e ∙ list_none resources _ (λ r. ap (λ v. valued v (S t k r)) (none r)))
-      (λ (ne : row ≢ 0). of_weight ne ∙ ap (λ v. valued v (A row t k)) (light row))
-      (decided (decides_eq row 0))
+-- of a stage that demands and weighs nothing
+records_none : (resources : ℕ) (row : Option ℕ) (t k : ℕ) (s : Stage) → ((r : ℕ) → at s.demand r ≡ 0) → ((w : ℕ) → at s.weight w ≡ 0)
+    → stage_records resources row t k s ≡ []
+unfolding stage_records
+records_none resources None t k s idle light = list_none resources _ (λ r. ap (λ v. valued v (S t k r)) (idle r))
+records_none resources (Some row) t k s idle light = ap (λ v. valued v (A row t k)) (light row)
 
 -- beyond the last stage
-pub records_beyond : (bytes : List ℕ) (resources row t k i : ℕ) → max_all_stages ≤ i → stage_records resources row t k (stage_read bytes i) ≡ []
+pub records_beyond : (bytes : List ℕ) (resources : ℕ) (row : Option ℕ) (t k i : ℕ) → max_all_stages ≤ i → stage_records resources row t k (stage_read bytes i) ≡ []
 unfolding stage_read
 records_beyond bytes resources row t k i h =
     ap (stage_records resources row t k) (stage_beyond bytes i no_stage h)
     ∙ records_none resources row t k no_stage (zeros_at 32) (zeros_at 32)
 
 module _ (f : Frame) (bytes : List ℕ) where
-  pub stages_none : (row : ℕ) → length bytes ≢ stages_size → plan_stages (plan_over f bytes) row ≡ []
+  pub stages_none : (row : Option ℕ) → length bytes ≢ stages_size → plan_stages (plan_over f bytes) row ≡ []
   unfolding demand_of weight_of
   stages_none row h = ap (λ p. plan_stages p row) (over_none f bytes h) ∙ none
     where
@@ -76,7 +65,7 @@ module _ (f : Frame) (bytes : List ℕ) where
           (λ t. list_none (length_of p t) _ (λ k. records_none p.resources row t k (stage_of p t k) (λ r. no_demand f r t k) (λ w. no_weight f w t k)))
 
   -- of the next type, by where its first stage stands and how many it has
-  pub type_told : (row t first count : ℕ) → length bytes ≡ stages_size → t < f.types → first ≡ sum_to t (at f.lengths) → count ≡ at f.lengths (t + 1)
+  pub type_told : (row : Option ℕ) (t first count : ℕ) → length bytes ≡ stages_size → t < f.types → first ≡ sum_to t (at f.lengths) → count ≡ at f.lengths (t + 1)
       → records_from bytes f.resources row (t + 1) first count ≡ type_records (plan_over f bytes) row (t + 1)
   unfolding plan_read stage_read stage_index
   type_told row t first count whole within here many =
@@ -88,12 +77,10 @@ module _ (f : Frame) (bytes : List ℕ) where
       ∙ ap (λ (q : Plan). type_records q row (t + 1)) (sym (over_whole f bytes whole)))
 
 module _ (p : Plan) where
-  pub demands_told : plan_stages p 0 ≡ demand_records p
+  pub demands_told : plan_stages p None ≡ demand_records p
   unfolding demand_of stage_records
   demands_told = refl
 
-  pub weights_told : (w : ℕ) → plan_stages p (w + 1) ≡ list_to p.types (type_weights p (w + 1))
-  unfolding weight_of
-  weights_told w =
-      let row = w + 1 in
-      list_same p.types _ _ (λ t _. list_same (length_of p t) _ _ (λ k _. of_weight p.resources row t k (stage_of p t k) (λ (e : row ≡ 0). absurd (omega arith))))
+  pub weights_told : (row : ℕ) → plan_stages p (Some row) ≡ list_to p.types (type_weights p row)
+  unfolding weight_of stage_records
+  weights_told row = refl

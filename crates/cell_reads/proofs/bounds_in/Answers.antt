@@ -11,7 +11,6 @@ loop-i-preserved c =
     let written = take-suc-set l.bounds l.i c.bound_at.result (omega arith) in
     let more = entries_more value_of 2 l.i c.args.part.now in
     record {
-      within = omega arith;
       size = simp length-set l.invariant.size;
       written = rw (add-one, written, l.invariant.written, c.bound_at.ensures) (sym more);
     }

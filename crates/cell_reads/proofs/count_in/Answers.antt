@@ -14,4 +14,4 @@ pub returns : goal.returns
 unfolding list_laid
 returns c =
     let bytes = c.args.cell.now in
-    rw (is_cell_lem bytes (omega arith)) (c.u8_to_usize.ensures.0 ∙ number_of_one (offset_of job_count_part) bytes (omega arith))
+    rw (is_cell_lem bytes (omega arith)) (c.from.ensures ∙ number_of_one (offset_of job_count_part) bytes (omega arith))

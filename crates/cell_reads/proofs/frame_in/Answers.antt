@@ -14,8 +14,8 @@ returns c =
       resources = number_of_one (offset_of resources_part) bytes (omega arith) i;
       types = number_of_one (offset_of types_part) bytes (omega arith) i;
       rows = number_of_one (offset_of rows_part) bytes (omega arith) i;
-      capacity = c.bytes_32.ensures i;
-      rank = c.bytes_32-2.ensures i;
+      capacity = c.bytes.ensures i;
+      rank = c.bytes-2.ensures i;
       bound = c.bounds_in.ensures i;
-      lengths = c.bytes_16.ensures i;
+      lengths = c.bytes-3.ensures i;
     })

@@ -31,7 +31,6 @@ loop-i-preserved c =
     let written = take-suc-set l.jobs l.i c.number_at.result (omega arith) in
     let more = entries_more value_of 4 l.i (part_in jobs_part c.args.cell.now) in
     record {
-      within = omega arith;
       size = simp length-set l.invariant.size;
       written = rw (add-one, written, l.invariant.written, c.number_at.ensures) (sym more);
     }

@@ -12,7 +12,6 @@ loop-i-preserved c =
     let written = take-suc-set l.list.jobs l.i c.job_from.result (omega arith) in
     let more = entries_more job_in job_size l.i (part_in jobs_part c.args.cell.now) in
     record {
-      within = omega arith;
       slots = simp length-set l.invariant.slots;
       written = rw (add-one, written, l.invariant.written, c.job_from.ensures) (sym more);
       count = l.invariant.count;

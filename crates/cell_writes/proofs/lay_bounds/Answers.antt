@@ -6,7 +6,6 @@ use Rattle.cell_writes.proofs.lay_bounds.Goals as goal
 pub loop-i-init : goal.loop-i-init
 loop-i-init c =
     record {
-      within = omega arith;
       room = omega arith;
       laid = none_written (bytes_of 2) 2 (offset_of bounds_part) c.args.bound c.args.cell.now;
     }
@@ -17,7 +16,6 @@ loop-i-preserved c =
     let l = c.loop-i in
     let next = more_written (bytes_of 2) 2 (offset_of bounds_part) a.bound a.cell.now l.i 0 (omega arith) l.invariant.laid refl refl c.lay_bound.ensures in
     record {
-      within = omega arith;
       room = omega (arith, written_length (bytes_of 2) 2 (offset_of bounds_part) a.bound a.cell.now _ next, written_length (bytes_of 2) 2 (offset_of bounds_part) a.bound a.cell.now _ l.invariant.laid);
       laid = rw add-one next;
     }

@@ -9,7 +9,7 @@ use Rattle.cell_writes.proofs.lay_frame.Goals as goal
 pub returns : goal.returns
 unfolding plan_read
 returns c =
-    let f = c.args.frame in
+    let f = c.args.frame.now in
     let capacities : length f.capacity ≡ 32 = omega arith in
     let ranks : length f.rank ≡ 32 = omega arith in
     let bounds : length f.bound ≡ 32 = omega arith in

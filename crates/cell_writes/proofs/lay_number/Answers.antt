@@ -1,9 +1,11 @@
--- Four bytes stored one after the other lie there as a number.
-use Rattle.std.proofs.Common.{arith}
-use Rattle.cell_layout.proofs.EntryBytes.{four_stored}
+-- The four bytes lie there as a number.
+use Rattle.std.proofs.Common.{◌∙◌, arith}
+use Rattle.std.proofs.Math.Nat.{div-div-eq-div-mul}
+use Rattle.cell_writes.proofs.PartLaid.{part_laid}
 use Rattle.cell_writes.proofs.lay_number.Goals as goal
 
 pub returns : goal.returns
 returns c =
     let a = c.args in
-    rw (c.low_byte.ensures, c.low_byte-2.ensures, c.low_byte-3.ensures, c.low_byte-4.ensures) (four_stored a.at _ _ _ _ a.cell.now (omega arith))
+    rw (c.copy_from_slice.ensures.after ∙ c.to_le_bytes.ensures, div-div-eq-div-mul a.n 256 256, div-div-eq-div-mul a.n 65536 256)
+    (part_laid a.at _ _ a.cell.now (omega arith) (omega arith))

@@ -25,7 +25,6 @@ loop-i-init c =
     let l = c.args.l in
     let bytes = c.args.cell.now in
     record {
-      within = omega arith;
       room = omega (arith, length-set bytes (offset_of job_count_part) (l.count % 256));
       laid = none_written job_bytes job_size (offset_of jobs_part) l.jobs (counted l bytes);
     }
@@ -37,7 +36,6 @@ loop-i-preserved c =
     let first = counted l c.args.cell.now in
     let next = more_written job_bytes job_size (offset_of jobs_part) l.jobs first t.i no_job (omega arith) t.invariant.laid refl refl c.lay_job.ensures in
     record {
-      within = omega arith;
       room = omega (arith, laid_length l first _ next, laid_length l first _ t.invariant.laid);
       laid = rw add-one next;
     }

@@ -1,5 +1,5 @@
 -- The count, and behind it the entries, one behind the other.
-use Rattle.std.proofs.Common.{◌-◌, ◌≤◌, length}
+use Rattle.std.proofs.Common.{◌≤◌, length}
 use Rattle.cell_layout.specs.Layout.{job_bytes, job_size, offset_of, jobs_part, cell_size}
 use Rattle.cell_layout.proofs.EntryBytes.{EntriesLaid}
 use Rattle.cell_writes.proofs.put_list.Given as goal
@@ -7,10 +7,6 @@ use Rattle.cell_writes.proofs.put_list.Given as goal
 abbrev pub invariant-loop-i : goal.invariant-loop-i
 invariant-loop-i l =
     record {
-      within : l.i ≤ 64;
       room : cell_size ≤ length l.cell;
       laid : EntriesLaid job_bytes job_size (offset_of jobs_part) l.l.jobs l.initial.cell l.i l.cell;
     }
-
-abbrev pub decreases-loop-i : goal.decreases-loop-i
-decreases-loop-i l = 64 - l.i

@@ -10,14 +10,14 @@ pub returns-then-cell-lt-CELL : goal.returns-then-cell-lt-CELL
 unfolding with_plan
 returns-then-cell-lt-CELL c = rw (no_cell_lem c.args.cell.now (omega arith)) refl
 
-pub returns-then-stages-ne-ALL_STAGES : goal.returns-then-stages-ne-ALL_STAGES
+pub returns-then-plan-ne-ALL_STAGES : goal.returns-then-plan-ne-ALL_STAGES
 unfolding with_plan plan_over plan_read
-returns-then-stages-ne-ALL_STAGES c =
+returns-then-plan-ne-ALL_STAGES c =
     let a = c.args in
-    rw (is_cell_lem a.cell.now (omega arith)) (c.lay_frame.ensures ∙ no_stages_put a.frame a.stages.now c.if-stages-ne-ALL_STAGES.true _)
+    rw (is_cell_lem a.cell.now (omega arith)) (c.lay_frame.ensures ∙ no_stages_put a.plan.frame.now a.plan.stages.now c.if-plan-ne-ALL_STAGES.true _)
 
 pub returns : goal.returns
 unfolding with_plan plan_over plan_read
 returns c =
     let a = c.args in
-    rw (is_cell_lem a.cell.now (omega arith)) (stages_put a.frame a.stages.now c.if-stages-ne-ALL_STAGES.false c.put_text.ensures.1 c.lay_frame.ensures)
+    rw (is_cell_lem a.cell.now (omega arith)) (stages_put a.plan.frame.now a.plan.stages.now c.if-plan-ne-ALL_STAGES.false c.put_text.ensures.1 c.lay_frame.ensures)

@@ -1,14 +1,16 @@
 -- The outcome is that of the table that was lent: its number and place are put, and told of if it is a refusal.
-use Rattle.std.proofs.Common.{ap, ◌∙◌}
+use Rattle.std.proofs.Common.{ℕ, ◌≡◌, ◌≤◌, List, ap, subst, ◌∙◌, arith, length}
 use Rattle.events.specs.Events.{answer_numbers}
 use Rattle.admission.specs.declared.Outcome.{Outcome}
+use Rattle.plan_bytes.specs.Over.{plan_of}
 use Rattle.moves_text.specs.OutputLines.{event_line}
-use Rattle.moves_text.proofs.Overlays.{put_as}
-use Rattle.desk_text.specs.Desk.{desk_with}
+use Rattle.desk_text.specs.Desk.{desk_with, event_out}
+use Rattle.write_lines.specs.Sink.{with_text}
+use Rattle.write_lines.proofs.EventLines.{event_line_bounded}
 use Rattle.desk_event.proofs.reply_to_event.Goals as goal
 
-pub tell_event-m-requires : goal.tell_event-m-requires
-tell_event-m-requires c =
+pub tell_event-requires : goal.tell_event-requires
+tell_event-requires c =
     let number = c.answer_number-number.ensures ∙ ap (λ (o : Outcome). (answer_numbers o.answer).0) c.handle_lent-outcome.ensures in
     let place = c.answer_place-place.ensures ∙ ap (λ (o : Outcome). (answer_numbers o.answer).1) c.handle_lent-outcome.ensures in
     λ i. (number i, place i)
@@ -16,14 +18,16 @@ tell_event-m-requires c =
 pub returns : goal.returns
 returns c =
     let a = c.args in
-    let number = c.answer_number-number.ensures ∙ ap (λ (o : Outcome). (answer_numbers o.answer).0) c.handle_lent-outcome.ensures in
-    let place = c.answer_place-place.ensures ∙ ap (λ (o : Outcome). (answer_numbers o.answer).1) c.handle_lent-outcome.ensures in
-    let after = ap (λ (o : Outcome). o.table.list) c.handle_lent-outcome.ensures in
+    let o = c.handle_lent-outcome in
+    let number = c.answer_number-number.ensures ∙ ap (λ (o : Outcome). (answer_numbers o.answer).0) o.ensures in
+    let place = c.answer_place-place.ensures ∙ ap (λ (o : Outcome). (answer_numbers o.answer).1) o.ensures in
+    let after = ap (λ (o : Outcome). o.table.list) o.ensures in
+    let line : event_line a.desk.ordinal c.answer_number-number.result c.answer_place-place.result o.result.table.list.count ≡ event_out (plan_of a.plan) a.desk a.event =
+    λ i. event_line a.desk.ordinal (number i) (place i) (after i).count in
+    let few = event_line_bounded a.desk.ordinal c.answer_number-number.result c.answer_place-place.result o.result.table.list.count (omega arith) (omega arith) (omega arith) (omega arith) in
     record {
-      fact = (
-        c.next_desk.ensures ∙ ap (λ l. desk_with l a.desk.ordinal) after,
-        put_as a.put a.out.now (λ i. event_line a.desk.ordinal (number i) (place i) (after i).count) c.put_event_line-n.ensures.value,
-        c.tell_event-m.ensures.fact,
-      );
-      put_bound = (c.put_event_line-n.ensures.upper_bound, c.tell_event-m.ensures.upper_bound);
+      after = c.next_desk.ensures ∙ ap (λ l. desk_with l a.desk.ordinal) after;
+      answered = c.put_event_line.ensures ∙ ap (λ bs. with_text bs a.out.now) line;
+      told = c.tell_event.ensures.told;
+      short = (subst (λ (bs : List ℕ). length bs ≤ 84) line few, c.tell_event.ensures.short);
     }

@@ -7,5 +7,5 @@ pub returns : goal.returns
 unfolding held_with
 returns c =
     let a = c.args in
-    let count : c.at_most-3.result ≡ min (a.held.count + length a.more.now) 65 = omega arith in
+    let count : c.min-3.result ≡ min (a.held.count + length a.more.now) 65 = omega arith in
     λ i. record { bytes = c.put_text.ensures.1 i; count = count i }

@@ -5,5 +5,5 @@ use Rattle.desk_held.proofs.start_desk.Goals as goal
 
 pub returns : goal.returns
 returns c =
-    let list = ap (λ (t : Table). t.list) c.empty-table.ensures in
+    let list = ap (λ (t : Table). t.list) c.empty.ensures in
     λ i. record { list = list i; ordinal = 1; held = c.no_line.ensures i }

@@ -1,16 +1,19 @@
--- A line that is held has no LF.
-use Rattle.std.proofs.Common.{refl}
-use borrow.Author.Tests.{eq-eqb, ne_eqb}
-use Rattle.moves_text.proofs.Overlays.{none_put}
-use Rattle.desk_text.specs.Desk.{desk_at_end, out_at_end, told_at_end}
+-- A line of answers and a line of words are short, so both are counted whole.
+use Rattle.std.proofs.Common.{refl, ap, arith}
+use Rattle.desk_text.specs.Desk.{out_at_end, told_at_end}
+use Rattle.write_lines.proofs.Sinks.{new_whole, same_lent}
 use Rattle.desk_line.proofs.reply_at_end.Goals as goal
 
-pub returns-then-desk-eq0 : goal.returns-then-desk-eq0
-unfolding desk_at_end out_at_end told_at_end
-returns-then-desk-eq0 c =
-    let a = c.args in
-    rw (eq-eqb a.desk.held.count 0 c.if-desk-eq0.true) (refl, none_put 0 a.out.now, none_put 0 a.words.now)
+pub returns-clause-answered : goal.returns-clause-answered
+returns-clause-answered c =
+    let w = c.reply_to_held-after.ensures in
+    let put = new_whole (out_at_end c.args.desk) _ _ refl w.answered (omega (arith, w.short.0)) in
+    let lent = same_lent _ _ _ w.answered in
+    (put.0, grind arith)
 
-pub returns : goal.returns
-unfolding desk_at_end out_at_end told_at_end
-returns c = rw (ne_eqb c.args.desk.held.count 0 c.if-desk-eq0.false) c.reply_to_malformed.ensures.desk_value
+pub returns-clause-told : goal.returns-clause-told
+returns-clause-told c =
+    let w = c.reply_to_held-after.ensures in
+    let put = new_whole (told_at_end c.args.desk) _ _ refl w.told (omega (arith, w.short.1)) in
+    let lent = same_lent _ _ _ w.told in
+    (put.0, grind arith)

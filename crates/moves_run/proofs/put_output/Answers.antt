@@ -9,18 +9,14 @@ use Rattle.plan_text.specs.declared.Reading.{Reading}
 use Rattle.moves_text.specs.Division.{plan_length, plan_part}
 use Rattle.moves_text.specs.OutputLines.{about_plan, about_text}
 use Rattle.moves_text.specs.Output.{to_print}
-use Rattle.moves_text.specs.Buffer.{overlaid}
 use Rattle.moves_text.proofs.CountedFew.{plan_within}
-use Rattle.moves_text.proofs.Enough.{about_short}
-use Rattle.moves_text.proofs.Overlays.{whole_laid}
 use Rattle.moves_text.proofs.OutputParts.{too_long_output, plan_lent, events_lent, whole_output}
+use Rattle.write_lines.specs.Sink.{with_text}
+use Rattle.write_lines.proofs.Sinks.{text_then}
 use Rattle.moves_run.proofs.put_output.Goals as goal
 
 pub returns-then-input-gt65536 : goal.returns-then-input-gt65536
-returns-then-input-gt65536 c =
-    let a = c.args in
-    let e = too_long_output a.input.now c.if-input-gt65536.true in
-    (c.put_plan_line.ensures.0 ∙ ap length e, c.put_plan_line.ensures.1 ∙ ap (λ out. overlaid out a.buffer.now) e)
+returns-then-input-gt65536 c = c.put_plan_line.ensures ∙ ap (λ bs. with_text bs c.args.out.now) (too_long_output c.args.input.now c.if-input-gt65536.true)
 
 pub overflow_add-first : goal.overflow_add-first
 overflow_add-first c = omega (arith, c.plan_length-n.ensures, plan_within c.args.input.now)
@@ -37,14 +33,8 @@ module _ (input part : List ℕ) (n number : ℕ) (taken : Reading) (ends : n �
 pub put_replies-requires : goal.put_replies-requires
 put_replies-requires c =
     let input = c.args.input.now in
-    let n = c.plan_length-n.result in
-    let about =
-    about_told input c.part_of.result.now n c.text_number.result (reading_from c.read-reading.result) c.plan_length-n.ensures c.part_of.ensures.bytes
-    c.read-reading.ensures c.text_number.ensures in
-    let events = events_lent input c.part_of-2.result.now n c.plan_length-n.ensures c.part_of-2.ensures.bytes in (
-      omega (arith, ap length events, length-drop (plan_length input + 2) input),
-      omega (arith, c.put_about-at.ensures.0, ap length about, about_short (plan_part input)),
-    )
+    let events = events_lent input c.part_of-2.result.now c.plan_length-n.result c.plan_length-n.ensures c.part_of-2.ensures.bytes in
+    omega (arith, ap length events, length-drop (plan_length input + 2) input)
 
 pub returns : goal.returns
 returns c =
@@ -56,6 +46,9 @@ returns c =
     let told = read_told input c.part_of.result.now n number taken c.plan_length-n.ensures c.part_of.ensures.bytes c.read-reading.ensures c.text_number.ensures in
     let about = about_told input c.part_of.result.now n number taken c.plan_length-n.ensures c.part_of.ensures.bytes c.read-reading.ensures c.text_number.ensures in
     let events = events_lent input lent n c.plan_length-n.ensures c.part_of-2.ensures.bytes in
-    whole_laid (about_text number taken.line taken.plan) (to_print taken.plan empty_list 1 lent) c.args.buffer.now
-    (ap (λ out. out ++ to_print taken.plan empty_list 1 lent) (about ∙ ap about_plan (sym told)) ∙ whole_output input c.if-input-gt65536.false taken told lent events)
-    c.put_about-at.ensures c.put_replies.ensures
+    let whole =
+    ap (λ bs. bs ++ to_print taken.plan empty_list 1 lent) (about ∙ ap about_plan (sym told)) ∙ whole_output input c.if-input-gt65536.false taken told lent events in
+    c.put_replies.ensures
+    ∙ ap (with_text (to_print taken.plan empty_list 1 lent)) c.put_about.ensures
+    ∙ text_then (about_text number taken.line taken.plan) (to_print taken.plan empty_list 1 lent) c.args.out.now
+    ∙ ap (λ bs. with_text bs c.args.out.now) whole

@@ -1,11 +1,7 @@
--- Each turn finds a line and, where it is counted, puts what it is answered behind what is put.
-use Rattle.std.proofs.Common.{length, ◌-◌}
-use Rattle.plan_bytes.specs.Over.{plan_over}
-use Rattle.moves_text.proofs.ReplySteps.{Replying}
+-- At the head of each turn the lines before it are answered.
+use Rattle.plan_bytes.specs.Over.{plan_of}
+use Rattle.moves_run.proofs.Turn.{Answered}
 use Rattle.moves_run.proofs.put_replies.Given as goal
 
-abbrev pub invariant-loop-at : goal.invariant-loop-at
-invariant-loop-at l = Replying (plan_over l.frame l.stages) l.events l.initial.buffer l.start l.table.list l.ordinal l.put l.at l.buffer
-
-abbrev pub decreases-loop-at : goal.decreases-loop-at
-decreases-loop-at l = length l.events - l.at
+abbrev pub invariant-loop-line : goal.invariant-loop-line
+invariant-loop-line l = Answered (plan_of l.plan) l.events l.initial.out l.table.list l.ordinal l.line-iterator l.out

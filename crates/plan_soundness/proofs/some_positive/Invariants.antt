@@ -1,10 +1,7 @@
 -- The flag says whether some of the first i is not 0.
-use Rattle.std.proofs.Common.{◌-◌, ◌≡◌, ◌≤◌, leb}
+use Rattle.std.proofs.Common.{◌≡◌, leb}
 use Rattle.model.specs.Numbers.{at, some_to}
 use Rattle.plan_soundness.proofs.some_positive.Given as goal
 
 abbrev pub invariant-loop-i : goal.invariant-loop-i
-invariant-loop-i l = record { within : l.i ≤ l.n; same : l.some ≡ some_to l.i (λ j. leb 1 (at l.xs j)) }
-
-abbrev pub decreases-loop-i : goal.decreases-loop-i
-decreases-loop-i l = l.n - l.i
+invariant-loop-i l = l.some ≡ some_to l.i (λ j. leb 1 (at l.xs j))

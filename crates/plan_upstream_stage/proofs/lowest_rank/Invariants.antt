@@ -1,10 +1,7 @@
 -- The lowest so far is that of the demands passed; at the end all demands are passed, as proofs/Beyond says.
-use Rattle.std.proofs.Common.{◌-◌, ◌≡◌, ◌≤◌}
+use Rattle.std.proofs.Common.{◌≡◌}
 use Rattle.plan_upstream_stage.specs.Due.{lowest_rank}
 use Rattle.plan_upstream_stage.proofs.lowest_rank.Given as goal
 
 abbrev pub invariant-loop-i : goal.invariant-loop-i
-invariant-loop-i l = record { same : l.lowest ≡ lowest_rank l.i l.demand l.rank; within : l.i ≤ l.n }
-
-abbrev pub decreases-loop-i : goal.decreases-loop-i
-decreases-loop-i l = l.n - l.i
+invariant-loop-i l = l.lowest ≡ lowest_rank l.i l.demand l.rank

@@ -2,6 +2,7 @@
 use Rattle.std.proofs.Common.{◌≡◌, ℕ, ◌+◌, ◌-◌, ◌<◌, List, ◌∷◌, length, take, drop, sym, ap, ◌∙◌, arith}
 use Rattle.plan_text.specs.Lines.{columns, fields_in}
 use Rattle.plan_text.specs.RecordTests.{fields_on, fields_read}
+use Rattle.plan_text.specs.ReaderInternals.{fields_given}
 use Rattle.read_fields.proofs.FieldByField.{TabFound, fields_after, first_tab, next_tab, field_bad, field_fifth, field_next}
 use Rattle.read_fields.proofs.fields_of.Goals as goal
 
@@ -18,21 +19,22 @@ pub loop-at-init : goal.loop-at-init
 loop-at-init c =
     record { within = c.find-at.ensures.within (omega arith); few = omega arith; same = ap fields_read (first_tab c.args.line.now c.find-at.result c.find-at.ensures.first) }
 
-pub returns-then-x-eq-NO_VALUE : goal.returns-then-x-eq-NO_VALUE
-returns-then-x-eq-NO_VALUE c =
+pub returns-in_err-x : goal.returns-in_err-x
+returns-in_err-x c =
     let line = c.args.line.now in
     let k = c.loop-at in
     let end = c.find-end.result in
-    sym (left line k.at end k.count k.numbers k.invariant.same c.loop-at-test.true c.find-end.ensures.first
-    ∙ field_bad k.count c.value_read-x.result k.numbers (field line k.at end) (fields_after line end) c.value_read-x.ensures c.if-x-eq-NO_VALUE.true)
+    c.from_residual.ensures
+    ∙ sym (ap fields_given (left line k.at end k.count k.numbers k.invariant.same c.loop-at-test.true c.find-end.ensures.first)
+    ∙ field_bad k.count k.numbers (field line k.at end) (fields_after line end) (sym c.in_err-x.ensures))
 
 pub returns-then-count-eq4 : goal.returns-then-count-eq4
 returns-then-count-eq4 c =
     let line = c.args.line.now in
     let k = c.loop-at in
     let end = c.find-end.result in
-    sym (left line k.at end k.count k.numbers k.invariant.same c.loop-at-test.true c.find-end.ensures.first
-    ∙ field_fifth k.count c.value_read-x.result k.numbers (field line k.at end) (fields_after line end) c.value_read-x.ensures c.if-count-eq4.true)
+    sym (ap fields_given (left line k.at end k.count k.numbers k.invariant.same c.loop-at-test.true c.find-end.ensures.first)
+    ∙ field_fifth k.count k.numbers (field line k.at end) (fields_after line end) c.if-count-eq4.true)
 
 pub loop-at-preserved : goal.loop-at-preserved
 loop-at-preserved c =
@@ -45,5 +47,5 @@ loop-at-preserved c =
       few = omega arith;
       same =
           left line k.at end k.count k.numbers k.invariant.same c.loop-at-test.true c.find-end.ensures.first
-          ∙ field_next k.count c.value_read-x.result k.numbers (field line k.at end) (fields_after line end) c.value_read-x.ensures c.if-x-eq-NO_VALUE.false few;
+          ∙ field_next k.count k.numbers (field line k.at end) (fields_after line end) c.in_ok-x.x (sym c.in_ok-x.ensures) few;
     }

@@ -1,16 +1,12 @@
--- The number of the first i digits is at hand and below 10 ^ i; what is left to read after it is what was to be read at the start.
-use Rattle.std.proofs.Common.{length, drop, ◌-◌, ◌^◌, ◌≡◌, ◌<◌, ◌≤◌}
+-- The number of the digits so far is at hand and below a power of 10; what is left to read after it is what was to be read at the start.
+use Rattle.std.proofs.Common.{drop, ◌^◌, ◌≡◌, ◌<◌}
 use Rattle.plan_text.specs.ReaderInternals.{value_read}
 use Rattle.read_fields.proofs.Digits.{digits_on}
 use Rattle.read_fields.proofs.value_read.Given as goal
 
-abbrev pub invariant-loop-i : goal.invariant-loop-i
-invariant-loop-i l =
+abbrev pub invariant-loop-b : goal.invariant-loop-b
+invariant-loop-b l =
     record {
-      within : l.i ≤ length l.digits;
-      small : l.x < 10 ^ l.i;
-      same : value_read l.digits ≡ digits_on l.x (drop l.i l.digits);
+      small : l.x < 10 ^ l.b-index;
+      same : value_read l.digits ≡ digits_on l.x (drop l.b-index l.digits);
     }
-
-abbrev pub decreases-loop-i : goal.decreases-loop-i
-decreases-loop-i l = length l.digits - l.i

@@ -1,33 +1,16 @@
--- In each turn the reader goes on by one line, and the line that it gives is the next one.
-use Rattle.std.proofs.Common.{◌≡◌, ℕ, ◌+◌, List, ap, sym, subst, ◌∙◌, add-one, arith}
-use Rattle.std.specs.Borrow.{Bor}
-use Rattle.plan_text.specs.LineReading.{span_from}
-use Rattle.plan_text.specs.NthLine.{offset_after, IsNth}
-use Rattle.plan_text.specs.TextParts.{IsPart}
-use Rattle.read_lines.specs.LineReads.{read_on, Reads}
-use Rattle.read_lines.specs.declared.LineReader.{LineReader}
-use Rattle.read_lines.specs.declared.TextLine.{TextLine}
+-- The n-th line is what the reader gives after n - 1 others.
+use Rattle.std.proofs.Common.{◌≡◌, ℕ, suc, ◌-◌, subst, arith}
+use Rattle.plan_text.specs.NthLine.{IsNth}
+use Rattle.read_nth.proofs.Onward.{nth_read, nth_none}
 use Rattle.read_nth.proofs.nth_line.Goals as goal
 
--- the reader behind so many lines
-abbrev behind : Bor (List ℕ) → ℕ → LineReader
-behind text k = record { text = text; at = offset_after text.now k }
+pub returns-in-Some : goal.returns-in-Some
+returns-in-Some c =
+    let n : suc (c.args.n - 1) ≡ c.args.n = omega arith in
+    subst (λ (m : ℕ). IsNth c.args.text m c.in-Some.line.bytes) n (nth_read c.args.text _ c.in-Some.line _ (rw c.new-reader.ensures at c.in-Some.ensures.ran))
 
-module _ (text : Bor (List ℕ)) (k : ℕ) (r r′ : LineReader) (l : TextLine) (stands : r ≡ behind text k) (read : Reads r l r′) where
-  goes_on : r′ ≡ behind text (k + 1)
-  goes_on = read.moved ∙ ap read_on stands ∙ ap (behind text) (sym (add-one k))
-
-  is_next : IsNth text (k + 1) l.bytes
-  is_next =
-      subst (λ (n : ℕ). IsNth text n l.bytes) (sym (add-one k))
-      (subst (λ (b : LineReader). IsPart b.text b.at (span_from b.text.now b.at).end l.bytes) stands read.part)
-
-pub loop-k-preserved : goal.loop-k-preserved
-loop-k-preserved c =
-    let l = c.loop-k in
-    let n = c.next-line in
-    record {
-      within = omega arith;
-      stands = goes_on c.new-reader.result.text l.k l.reader n.new.self n.result l.invariant.stands n.ensures;
-      part = is_next c.new-reader.result.text l.k l.reader n.new.self n.result l.invariant.stands n.ensures;
-    }
+pub returns-in-None : goal.returns-in-None
+returns-in-None c =
+    let n : suc (c.args.n - 1) ≡ c.args.n = omega arith in
+    subst (λ (m : ℕ). IsNth c.args.text m c.part_of-in-None.result) n
+    (nth_none c.args.text _ _ _ (rw c.new-reader.ensures at c.in-None.ensures.ran) c.part_of-in-None.ensures)

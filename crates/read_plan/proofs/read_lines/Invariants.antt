@@ -1,17 +1,13 @@
--- Each turn finds a line, asks its questions in two groups and writes its record; what is left to read stays what was to be read.
-use Rattle.std.proofs.Common.{length, ◌-◌, ◌≡◌}
-use Rattle.plan_bytes.specs.Over.{stages_size}
-use Rattle.plan_text.specs.ReaderInternals.{draft_with}
+-- What is left to read, with the draft at hand, is what was to be read at the start.
+use Rattle.std.proofs.Common.{◌≡◌}
+use Rattle.read_draft.specs.Drafted.{drafted}
 use Rattle.read_plan.proofs.Going.{ReadingOn}
-use Rattle.read_plan.proofs.StageLent.{stages_laid}
 use Rattle.read_plan.proofs.read_lines.Given as goal
 
-abbrev pub invariant-loop-at : goal.invariant-loop-at
-invariant-loop-at l =
+abbrev pub invariant-loop-next : goal.invariant-loop-next
+invariant-loop-next l =
     record {
-      going : ReadingOn l.text (draft_with l.head l.capacity l.rank l.bound l.lengths (stages_laid l.stages) l.bounded) l.line l.at;
-      whole : length l.stages ≡ stages_size;
+      text : l.reader.text.now ≡ l.text;
+      stands : l.reader.at ≡ l.at;
+      going : ReadingOn l.reader.text.now (drafted l.draft) l.line l.reader.at;
     }
-
-abbrev pub decreases-loop-at : goal.decreases-loop-at
-decreases-loop-at l = length l.text - l.at

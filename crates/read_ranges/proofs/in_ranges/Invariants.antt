@@ -1,19 +1,13 @@
 -- The fields passed are in their ranges, so what is left to test is the fields from i on.
-use Rattle.std.proofs.Common.{◌-◌, ◌≡◌, ◌≤◌, drop}
-use Rattle.plan_text.specs.Records.{layout_of}
-use Rattle.plan_text.specs.RecordTests.{fits_fields}
-use Rattle.plan_text.specs.ReaderInternals.{known_with}
+use Rattle.std.proofs.Common.{◌≡◌, ◌≤◌, drop, length, map}
+use Rattle.plan_text.specs.RecordTests.{fits_fields, in_ranges}
+use Rattle.read_ranges.specs.Table.{field_said, known_in}
 use Rattle.read_ranges.proofs.in_ranges.Given as goal
 
 abbrev pub invariant-loop-i : goal.invariant-loop-i
 invariant-loop-i l =
-    let k = known_with l.counts l.capacity l.lengths in
-    let fs = layout_of l.section in
+    let k = known_in l.fn.frame in
     record {
-      within : l.i ≤ l.count;
-      few : l.count ≤ 4;
-      same : fits_fields k 0 fs l.numbers ≡ fits_fields k l.before (drop l.i fs) (drop l.i l.numbers);
+      few : length l.fields ≤ 4;
+      same : in_ranges k l.fn.rec ≡ fits_fields k l.before (drop l.i (map field_said l.fields)) (drop l.i l.numbers);
     }
-
-abbrev pub decreases-loop-i : goal.decreases-loop-i
-decreases-loop-i l = l.count - l.i

@@ -24,15 +24,15 @@ fits_here fitting count jobs i j b few h read says =
 pub returns-then-not-job_fits : goal.returns-then-not-job_fits
 returns-then-not-job_fits c =
     let a = c.args in
-    sym (c.loop-i.invariant ∙ fits_here (fits a.types a.lengths.now) a.count a.jobs.now c.loop-i.i _ _ c.requires c.loop-i-test.true c.job_at-j.ensures c.if-not-job_fits.ensures)
+    sym (c.loop-i.invariant ∙ fits_here (fits a.types a.lengths.now) a.jobs.count a.jobs.numbers.now c.loop-i.i _ _ c.requires c.loop-i-test.true c.job_at-j.ensures c.if-not-job_fits.ensures)
 
 pub loop-i-preserved : goal.loop-i-preserved
 loop-i-preserved c =
     let a = c.args in
-    c.loop-i.invariant ∙ fits_here (fits a.types a.lengths.now) a.count a.jobs.now c.loop-i.i _ _ c.requires c.loop-i-test.true c.job_at-j.ensures c.if-not-job_fits.ensures
+    c.loop-i.invariant ∙ fits_here (fits a.types a.lengths.now) a.jobs.count a.jobs.numbers.now c.loop-i.i _ _ c.requires c.loop-i-test.true c.job_at-j.ensures c.if-not-job_fits.ensures
 
 pub returns : goal.returns
 returns c =
     let a = c.args in
-    let long = there a.count a.jobs.now c.requires in
-    sym (c.loop-i.invariant ∙ each_end _ (jobs_of (list_over a.count a.jobs.now)) c.loop-i.i (omega arith))
+    let long = there a.jobs.count a.jobs.numbers.now c.requires in
+    sym (c.loop-i.invariant ∙ each_end _ (jobs_of (list_over a.jobs.count a.jobs.numbers.now)) c.loop-i.i (omega arith))

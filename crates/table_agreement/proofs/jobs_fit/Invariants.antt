@@ -8,8 +8,8 @@ use Rattle.table_agreement.proofs.jobs_fit.Given as goal
 
 abbrev pub invariant-loop-i : goal.invariant-loop-i
 invariant-loop-i l =
-    each (fits l.types l.lengths) (jobs_of (list_over l.count l.jobs))
-    ≡ each (fits l.types l.lengths) (drop l.i (jobs_of (list_over l.count l.jobs)))
+    each (fits l.types l.lengths) (jobs_of (list_over l.jobs.count l.jobs.numbers.now))
+    ≡ each (fits l.types l.lengths) (drop l.i (jobs_of (list_over l.jobs.count l.jobs.numbers.now)))
 
 abbrev pub decreases-loop-i : goal.decreases-loop-i
-decreases-loop-i l = l.count - l.i
+decreases-loop-i l = l.jobs.count - l.i

@@ -11,8 +11,8 @@ use Rattle.table_excess.proofs.excess_after.Goals as goal
 pub returns : goal.returns
 returns c =
     let a = c.args in
-    let same = over_laid a.list c.laid-jobs.result c.laid-jobs.ensures in
+    let same = over_laid a.list c.laid-numbers.result c.laid-numbers.ensures in
     c.row_above.ensures
-    ∙ excess_read a.frame a.stages.now a.row (list_over a.list.count c.laid-jobs.result) a.event c.sums_of-sums.ensures
+    ∙ excess_read a.plan.frame.now a.plan.stages.now a.row (list_over a.list.count c.laid-numbers.result) a.event c.sums_of-sums.ensures
     c.exchange_of-exchange.ensures c.weights_at-old.ensures c.weights_at-new.ensures
-    ∙ ap (λ (t : JobList). excess_after (plan_over a.frame a.stages.now) t a.event a.row) same
+    ∙ ap (λ (t : JobList). excess_after (plan_over a.plan.frame.now a.plan.stages.now) t a.event a.row) same

@@ -15,7 +15,6 @@ loop-i-preserved c =
     let j = get_or c.args.t.jobs l.i no_job in
     let here = job_written l.numbers l.i j long low in
     record {
-      high = omega arith;
       long = written_length l.numbers l.i j long low;
       passed = λ k h.
           ⊎_elim (λ (e : k ≡ l.i). rw e here)

@@ -1,5 +1,5 @@
--- The entries passed are the amounts grown by their own; the measure is what is left of the 32.
-use Rattle.std.proofs.Common.{ℕ, ◌+◌, ◌-◌, ◌≡◌, ◌≤◌, length}
+-- The entries passed are the amounts grown by their own.
+use Rattle.std.proofs.Common.{ℕ, ◌+◌, ◌≡◌, ◌≤◌, length}
 use Rattle.model.specs.Numbers.{InRange, at}
 use Rattle.table_sums.proofs.added.Given as goal
 
@@ -9,10 +9,6 @@ Entry amount more sum = (sum ≡ amount + more) × (sum ≤ amount + 255)
 abbrev pub invariant-loop-i : goal.invariant-loop-i
 invariant-loop-i l =
     record {
-      high : l.i ≤ 32;
       long : length l.sums ≡ 32;
       passed : (k : ℕ) → InRange k l.i → Entry (at l.amounts k) (at l.more k) (at l.sums k);
     }
-
-abbrev pub decreases-loop-i : goal.decreases-loop-i
-decreases-loop-i l = 32 - l.i

@@ -13,20 +13,16 @@ parts w = (w.row, w.excess)
 
 pub loop-i-init : goal.loop-i-init
 unfolding greatest_after
-loop-i-init c = record { high = omega arith; found = refl }
+loop-i-init c = refl
 
 pub loop-i-preserved : goal.loop-i-preserved
 unfolding greatest_after
 loop-i-preserved c =
     let l = c.loop-i in
     let above = c.above_ceiling-above.ensures in
-    let so_far = ap parts l.invariant.found in
-    record {
-      high = omega arith;
-      found =
-          ap (λ (w : ℕ × ℕ). found w.0 w.1)
-          (elim c.if-excess-above.branch [
-            | then-excess-above w ↦ greatest_more _ l.i so_far (λ w. w) (λ w. w) (inl (omega (arith, above), w.row-is, w.excess-is ∙ above))
-            | else-excess-above w ↦ greatest_more _ l.i so_far (λ w. w) (λ w. w) (inr (omega (arith, above), w.row-is, w.excess-is))
-          ]);
-    }
+    let so_far = ap parts l.invariant in
+    ap (λ (w : ℕ × ℕ). found w.0 w.1)
+    (elim c.if-excess-above.branch [
+      | then-excess-above w ↦ greatest_more _ l.i so_far (λ w. w) (λ w. w) (inl (omega (arith, above), w.row-is, w.excess-is ∙ above))
+      | else-excess-above w ↦ greatest_more _ l.i so_far (λ w. w) (λ w. w) (inr (omega (arith, above), w.row-is, w.excess-is))
+    ])

@@ -1,10 +1,10 @@
 -- Each turn puts the record of one entry more.
-use Rattle.std.proofs.Common.{ℕ, ◌-◌, List}
+use Rattle.std.proofs.Common.{ℕ, ◌≡◌, List}
 use Rattle.model.specs.Numbers.{at}
 use Rattle.plan_text.specs.declared.Record.{Record}
-use Rattle.canonical_text.specs.CanonicalText.{valued}
+use Rattle.canonical_text.specs.CanonicalText.{list_to, valued, text_of}
 use Rattle.canonical_text.specs.WriterInternals.{entry_of}
-use Rattle.canonical_text.proofs.Puts.{Puts}
+use Rattle.write_lines.specs.Sink.{with_text}
 use Rattle.write_entries.proofs.put_entries.Given as goal
 
 -- the record of an entry, or none
@@ -12,7 +12,4 @@ abbrev pub own : Record → List ℕ → ℕ → List Record
 own like xs i = valued (at xs i) (entry_of like i)
 
 abbrev pub invariant-loop-i : goal.invariant-loop-i
-invariant-loop-i l = Puts (own l.fn.like l.xs) 46 l.from l.count l.i l.to l.initial.buffer l.buffer
-
-abbrev pub decreases-loop-i : goal.decreases-loop-i
-decreases-loop-i l = l.count - l.i
+invariant-loop-i l = l.out ≡ with_text (text_of (list_to l.i (own l.fn.like l.xs))) l.fn.out

@@ -1,19 +1,20 @@
 -- Four sections behind the first three.
-use Rattle.std.proofs.Common.{ap, refl, ◌+◌}
+use Rattle.std.proofs.Common.{ap, ◌∙◌}
 use Rattle.plan_bytes.specs.Over.{plan_read, plan_over}
-use Rattle.canonical_text.specs.CanonicalText.{entry_records, text_of, canonical_text}
-use Rattle.canonical_text.specs.WriterInternals.{entry_of}
-use Rattle.canonical_text.proofs.Puts.{Sections, section_more}
+use Rattle.canonical_text.specs.CanonicalText.{section_records, text_of, canonical_text}
+use Rattle.write_lines.specs.Sink.{with_text}
+use Rattle.write_record.proofs.RecordsPut.{records_more}
 use Rattle.write_plan.proofs.put_canonical.Goals as goal
 
 pub returns : goal.returns
 unfolding canonical_text plan_over plan_read
 returns c =
-    let f = c.args.frame in
-    let buffer = c.args.buffer.now in
-    let p = plan_over f c.args.stages.now in
-    let demands : Sections p buffer 4 (c.put_lists-n.result + c.put_demands-n.result) c.put_demands-n.new.buffer =
-    section_more p buffer 3 c.put_lists-n.ensures.value refl c.put_demands-n.ensures.value in
-    let bounds = section_more p buffer 4 demands refl c.put_bounds-n.ensures.value in
-    let weights = section_more p buffer 5 bounds refl c.put_weights-n.ensures.value in
-    section_more p buffer 6 weights (ap (λ q. text_of (entry_records (entry_of q) f.resources f.rank)) c.records_of.ensures) c.put_entries.ensures.value
+    let a = c.args in
+    let s = a.out.now in
+    let own = section_records (plan_over a.plan.frame.now a.plan.stages.now) in
+    rw (c.put_entries.ensures, c.put_weights.ensures, c.put_bounds.ensures, c.put_demands.ensures, c.put_lists.ensures, c.records_of.ensures)
+    (rw (c.from-resources.ensures, c.from-rows.ensures)
+    (ap (λ t. with_text (text_of (own 7)) (with_text (text_of (own 6)) (with_text (text_of (own 5)) t))) (records_more own 3 s)
+    ∙ ap (λ t. with_text (text_of (own 7)) (with_text (text_of (own 6)) t)) (records_more own 4 s)
+    ∙ ap (with_text (text_of (own 7))) (records_more own 5 s)
+    ∙ records_more own 6 s))

@@ -1,24 +1,22 @@
 -- Three sections, one behind the other.
-use Rattle.std.proofs.Common.{[], sym, ap, ◌∙◌, append-nil}
-use native.Mathlib.Nat.{zero-add}
+use Rattle.std.proofs.Common.{◌≡◌, [], ap, ◌∙◌}
 use Rattle.plan_bytes.specs.Over.{plan_read}
 use Rattle.plan_text.specs.Meaning.{C}
-use Rattle.moves_text.proofs.Overlays.{none_put}
-use Rattle.canonical_text.specs.CanonicalText.{entry_records, record_text, text_of}
-use Rattle.canonical_text.specs.WriterInternals.{entry_of}
-use Rattle.canonical_text.proofs.Puts.{Sections, section_more}
+use Rattle.canonical_text.specs.CanonicalText.{record_text, section_records, text_of}
+use Rattle.write_lines.specs.Sink.{with_text}
+use Rattle.write_record.proofs.RecordsPut.{one_record, records_more}
 use Rattle.write_plan.proofs.put_lists.Goals as goal
 
-pub returns-clause-value : goal.returns-clause-value
+pub returns : goal.returns
 unfolding plan_read
-returns-clause-value c =
-    let f = c.args.frame in
-    let buffer = c.args.buffer.now in
-    let p = plan_read f [] in
-    let counts : Sections p buffer 1 c.put_record-n.result c.put_record-n.new.buffer =
-    rw zero-add at
-    (section_more p buffer 0 (none_put 0 buffer) (ap record_text c.counts_of.ensures ∙ sym (append-nil (record_text (C f.resources f.types f.rows))))
-    c.put_record-n.ensures.value) in
-    let capacities =
-    section_more p buffer 1 counts (ap (λ q. text_of (entry_records (entry_of q) f.resources f.capacity)) c.records_of.ensures) c.put_entries-n.ensures.value in
-    section_more p buffer 2 capacities (ap (λ q. text_of (entry_records (entry_of q) f.types f.lengths)) c.records_of-2.ensures) c.put_entries.ensures.value
+returns c =
+    let f = c.args.frame.now in
+    let s = c.args.out.now in
+    let own = section_records (plan_read f []) in
+    let counted =
+    c.counts_of.ensures
+    ∙ (λ i. C (c.from-resources.ensures i) (c.from-types.ensures i) (c.from-rows.ensures i)) in
+    let counts : c.put_record.new.out ≡ with_text (text_of (own 1)) s =
+    c.put_record.ensures ∙ ap (λ r. with_text (record_text r) s) counted ∙ ap (λ bs. with_text bs s) (one_record (C f.resources f.types f.rows)) in
+    rw (c.put_entries-2.ensures, c.put_entries.ensures, counts, c.records_of.ensures, c.records_of-2.ensures, c.from-resources.ensures, c.from-types.ensures)
+    (ap (with_text (text_of (own 3))) (records_more own 1 s) ∙ records_more own 2 s)

@@ -1,7 +1,8 @@
 -- One to three digits are pushed one after the other; more are laid at once.
 use Rattle.std.proofs.Common.{ℕ, ◌≡◌, ◌+◌, List, [], ◌∷◌, ◌++◌, arith, refl, sym, ap, ◌∙◌, length, take, set}
 use Rattle.moves_text.specs.Decimals.{decimal}
-use Rattle.write_record.proofs.LineGrown.{pushed, pushed_two, pushed_three, one_digit, two_digits, three_digits}
+use Rattle.write_record.proofs.Digits.{one_digit, two_digits, three_digits}
+use Rattle.write_record.proofs.LineGrown.{pushed, pushed_two, pushed_three}
 use Rattle.write_record.proofs.put_digits.Goals as goal
 
 -- digits that are the number's, behind the first bytes

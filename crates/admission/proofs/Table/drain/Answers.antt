@@ -6,4 +6,4 @@ use Rattle.admission.proofs.Table.drain.Goals as goal
 pub returns : goal.returns
 returns c =
     let a = c.args in
-    drain_handed (plan_over a.frame a.stages.now) a.self a.budget c.drain-drained.result c.drain-drained.ensures
+    drain_handed (plan_over a.plan.frame.now a.plan.stages.now) a.self a.budget c.drain-drained.result c.drain-drained.ensures

@@ -12,8 +12,8 @@ use Rattle.admission.proofs.Table.handle.Goals as goal
 pub returns : goal.returns
 returns c =
     let a = c.args in
-    let plan = plan_over a.frame a.stages.now in
-    let same = over_laid a.self.list c.laid-jobs.result c.laid-jobs.ensures in
-    let judged = c.judge-judgement.result in
-    let leads = subst (λ (t : JobList). applied t judged ≡ list_outcome plan t a.event) same c.judge-judgement.ensures in
+    let plan = plan_over a.plan.frame.now a.plan.stages.now in
+    let same = over_laid a.self.list c.laid-numbers.result c.laid-numbers.ensures in
+    let judged = c.judge.result in
+    let leads = subst (λ (t : JobList). applied t judged ≡ list_outcome plan t a.event) same c.judge.ensures.outcome in
     event_handed plan a.self a.event c.changed-led.result (c.changed-led.ensures ∙ leads)

@@ -24,24 +24,24 @@ module _ {lengths : List ℕ} {types : ℕ} (given : Types lengths types) (kind 
 pub overflow_add-index : goal.overflow_add-index
 overflow_add-index c =
     let l = c.loop-kind in
-    omega (arith, within c.requires l.kind l.index _ c.loop-kind-test.true l.invariant.same c.u8_to_usize-index.ensures.0)
+    omega (arith, within c.requires l.kind l.index _ c.loop-kind-test.true l.invariant.same c.from-index.ensures)
 
 pub overflow_sub-ranks : goal.overflow_sub-ranks
 overflow_sub-ranks c =
     let l = c.loop-kind in
-    let e = c.u8_to_usize-index.ensures.0 in
+    let e = c.from-index.ensures in
     let t = c.loop-kind-test.true in
     omega (arith, grown c.requires l.kind l.index _ t l.invariant.same e, some c.requires l.kind l.index _ t l.invariant.same e)
 
 pub offset_bounds-ranks-index : goal.offset_bounds-ranks-index
 offset_bounds-ranks-index c =
     let l = c.loop-kind in
-    omega (arith, within c.requires l.kind l.index _ c.loop-kind-test.true l.invariant.same c.u8_to_usize-index.ensures.0)
+    omega (arith, within c.requires l.kind l.index _ c.loop-kind-test.true l.invariant.same c.from-index.ensures)
 
 pub bounds-ranks-index : goal.bounds-ranks-index
 bounds-ranks-index c =
     let l = c.loop-kind in
-    let e = c.u8_to_usize-index.ensures.0 in
+    let e = c.from-index.ensures in
     let t = c.loop-kind-test.true in
     omega (
       arith,
@@ -53,15 +53,14 @@ bounds-ranks-index c =
 pub loop-kind-preserved : goal.loop-kind-preserved
 loop-kind-preserved c =
     let l = c.loop-kind in
-    let e = c.u8_to_usize-index.ensures.0 in
+    let e = c.from-index.ensures in
     let t = c.loop-kind-test.true in
     let small = within c.requires l.kind l.index _ t l.invariant.same e in
     let end = last c.requires l.kind l.index _ t l.invariant.same e in
     let sum = grown c.requires l.kind l.index _ t l.invariant.same e in
     let here = some c.requires l.kind l.index _ t l.invariant.same e in
-    let room : l.index + c.u8_to_usize-index.result - 1 < length l.ranks = omega (arith, small, end, sum) in
+    let room : l.index + c.from-index.result - 1 < length l.ranks = omega (arith, small, end, sum) in
     record {
-      within = omega arith;
       same = rw add-one sum;
       full = simp length-set l.invariant.full;
       passed = close_more _ _ _ l.kind _ end l.ranks room here l.invariant.passed;

@@ -1,5 +1,5 @@
 -- The types passed are closed, one turn as proofs/TypeEnds says.
-use Rattle.std.proofs.Common.{◌-◌, ◌≡◌, ◌≤◌, length}
+use Rattle.std.proofs.Common.{◌≡◌, length}
 use Rattle.model.specs.Numbers.{at, sum_to}
 use Rattle.plan_upstream.proofs.TypeEnds.{ClosedTo}
 use Rattle.plan_upstream.proofs.ranks.closed.Given as goal
@@ -7,11 +7,7 @@ use Rattle.plan_upstream.proofs.ranks.closed.Given as goal
 abbrev pub invariant-loop-kind : goal.invariant-loop-kind
 invariant-loop-kind l =
     record {
-      within : l.kind ≤ l.types;
       same : l.index ≡ sum_to l.kind (at l.lengths);
       full : length l.ranks ≡ 128;
       passed : ClosedTo l.lengths l.types l.fn.lowest l.kind l.ranks;
     }
-
-abbrev pub decreases-loop-kind : goal.decreases-loop-kind
-decreases-loop-kind l = l.types - l.kind

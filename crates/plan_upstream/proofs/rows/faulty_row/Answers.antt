@@ -1,26 +1,25 @@
 use Rattle.std.proofs.Common.{arith, ℕ, ◌+◌, ◌-◌, ◌*◌, ◌<◌, ◌≤◌, ◌≡◌, suc, false, List, length, get_or, refl, sym, ap, subst, ◌∙◌, add-one}
 use Rattle.model.specs.Limits.{max_rows, max_all_stages}
-use Rattle.model.specs.Numbers.{at, lowest}
+use Rattle.model.specs.Numbers.{at}
 use Rattle.model.specs.Plan.{no_stage, demand_of, weight_of, stage_of}
 use Rattle.model.specs.Soundness.{Sound}
 use Rattle.model.specs.Upstream.{upstream_row, faulty_row}
 use Rattle.model.specs.declared.Plan.{Plan}
 use Rattle.model.proofs.Decide.{passes}
-use Rattle.model.proofs.Flat.{index_within, stage_there}
 use Rattle.model.proofs.Search.{lowest_more}
+use Rattle.model.proofs.Flat.{index_within, stage_there}
 use Rattle.model.proofs.Soundness.{decides_sound}
-use Rattle.plan_bytes.specs.Over.{stages_size, plan_read, plan_over}
+use Rattle.plan_bytes.specs.Over.{stages_size, plan_read, plan_over, plan_of}
 use Rattle.plan_bytes.specs.declared.Frame.{Frame}
 use Rattle.plan_bytes.proofs.Laid.{stage_lent}
 use Rattle.plan_bytes.proofs.Over.{sound_whole, over_there, over_read}
 use Rattle.plan_upstream_stage.specs.Due.{due_by}
 use Rattle.plan_upstream.specs.CheckInternals.{StretchRanks, stretch_rank}
-use Rattle.plan_upstream.proofs.RowSearch.{fault_found}
+use Rattle.plan_upstream.proofs.RowSearch.{fault_here, fault_nowhere}
 use Rattle.plan_upstream.proofs.LentStage.{demand_there, weight_there}
 use Rattle.plan_upstream.proofs.RowWalk.{due_to, Walk, StageAtIndex}
 use Rattle.plan_upstream.proofs.RowWalk.{wrong_row, walk_starts, walk_ends, next_stage, next_due, walk_on}
 use Rattle.plan_upstream.proofs.rows.faulty_row.Goals as goal
-use Rattle.plan_upstream.proofs.rows.faulty_row.Goals.{else-rows-test, then-rows-test+then-stages-test+then-stages-weight}
 
 due-same : {a b c d e f : ℕ} (later : ℕ) → a ≡ b → c ≡ d → e ≡ f → due_by a c e later ≡ due_by b d f later
 due-same later x y z = rw (x, y, z) refl
@@ -87,61 +86,78 @@ module _ (f : Frame) (bytes : List ℕ) (sound : Sound (plan_over f bytes)) wher
       goes_on : get_or bytes (i * 64 + row + 32) 0 ≡ weight → Walk p (suc row) i weight
       goes_on right = walk_on p (suc row) walk_here next due_is (weight_is ∙ right ∙ due_is)
 
-pub bounds-frame-row : goal.bounds-frame-row
-bounds-frame-row c = let h = few c.args.frame c.args.stages.now c.requires.0 c.u8_to_usize-rows.ensures.0 in omega arith
+pub bounds-plan-row : goal.bounds-plan-row
+bounds-plan-row c = let h = few c.args.plan.frame.now c.args.plan.stages.now c.requires.0 c.from-row-end.ensures in omega arith
 
 pub stages-init : goal.stages-init
 stages-init c =
-    let p = plan_over c.args.frame c.args.stages.now in
-    subst (λ (n : ℕ). Walk p (suc c.rows.row) n 0) (sym c.requires.1) (walk_starts p (suc c.rows.row))
+    let p = plan_of c.args.plan in
+    record { walk = subst (λ (n : ℕ). Walk p (suc c.rows.row) n 0) (sym c.requires.1) (walk_starts p (suc c.rows.row)); none = c.rows.invariant.none }
 
-pub bounds-stages-demand : goal.bounds-stages-demand
-bounds-stages-demand c =
-    let f = c.args.frame in
-    let bytes = c.args.stages.now in
-    let h = few f bytes c.requires.0 c.u8_to_usize-rows.ensures.0 in
-    omega (arith, room f bytes c.requires.0 c.rows.row c.stages.index c.stages.due (omega arith) c.stages.invariant c.stages-test.true)
+pub overflow_add-demand : goal.overflow_add-demand
+overflow_add-demand c =
+    let f = c.args.plan.frame.now in
+    let bytes = c.args.plan.stages.now in
+    let h = few f bytes c.requires.0 c.from-row-end.ensures in
+    omega (arith, room f bytes c.requires.0 c.rows.row c.stages.index c.stages.due (omega arith) c.stages.invariant.walk c.stages-test.true)
 
-pub bounds-stages-weight : goal.bounds-stages-weight
-bounds-stages-weight c =
-    let f = c.args.frame in
-    let bytes = c.args.stages.now in
-    let h = few f bytes c.requires.0 c.u8_to_usize-rows.ensures.0 in
-    omega (arith, room f bytes c.requires.0 c.rows.row c.stages.index c.stages.due (omega arith) c.stages.invariant c.stages-test.true)
+pub overflow_add-weight : goal.overflow_add-weight
+overflow_add-weight c =
+    let f = c.args.plan.frame.now in
+    let bytes = c.args.plan.stages.now in
+    let h = few f bytes c.requires.0 c.from-row-end.ensures in
+    omega (arith, room f bytes c.requires.0 c.rows.row c.stages.index c.stages.due (omega arith) c.stages.invariant.walk c.stages-test.true)
+
+pub bounds-plan-demand : goal.bounds-plan-demand
+bounds-plan-demand c =
+    let f = c.args.plan.frame.now in
+    let bytes = c.args.plan.stages.now in
+    let h = few f bytes c.requires.0 c.from-row-end.ensures in
+    omega (arith, room f bytes c.requires.0 c.rows.row c.stages.index c.stages.due (omega arith) c.stages.invariant.walk c.stages-test.true)
+
+pub bounds-plan-weight : goal.bounds-plan-weight
+bounds-plan-weight c =
+    let f = c.args.plan.frame.now in
+    let bytes = c.args.plan.stages.now in
+    let h = few f bytes c.requires.0 c.from-row-end.ensures in
+    omega (arith, room f bytes c.requires.0 c.rows.row c.stages.index c.stages.due (omega arith) c.stages.invariant.walk c.stages-test.true)
+
+pub overflow_cast-fault : goal.overflow_cast-fault
+overflow_cast-fault c = let h = few c.args.plan.frame.now c.args.plan.stages.now c.requires.0 c.from-row-end.ensures in omega arith
 
 pub stages-preserved : goal.stages-preserved
 stages-preserved c =
-    let f = c.args.frame in
-    let bytes = c.args.stages.now in
-    let h = few f bytes c.requires.0 c.u8_to_usize-rows.ensures.0 in
-    goes_on f bytes c.requires.0 c.rows.row c.stages.index c.stages.due (omega arith) c.stages.invariant c.stages-test.true c.args.ranks c.requires.2
-    c.u8_to_u16-limit.ensures c.due_weight-due.ensures c.if-stages-weight.false
+    let f = c.args.plan.frame.now in
+    let bytes = c.args.plan.stages.now in
+    let h = few f bytes c.requires.0 c.from-row-end.ensures in
+    record {
+      walk = goes_on f bytes c.requires.0 c.rows.row c.stages.index c.stages.due (omega arith) c.stages.invariant.walk c.stages-test.true c.args.ranks.now c.requires.2
+          (c.from-limit.ensures, omega arith) c.due_weight-due.ensures c.if-plan-weight.false;
+      none = c.stages.invariant.none;
+    }
 
 pub rows-preserved : goal.rows-preserved
 rows-preserved c =
-    let p = plan_over c.args.frame c.args.stages.now in
+    let p = plan_of c.args.plan in
     let end : c.stages.index ≡ 0 = omega (arith, c.stages-test.false) in
     let next = suc c.rows.row in
-    let right = walk_ends p next (subst (λ (n : ℕ). Walk p next n c.stages.due) end c.stages.invariant) in
-    record { passed = lowest_more _ c.rows.row c.rows.invariant.passed right; within = omega arith }
+    let right = walk_ends p next (subst (λ (n : ℕ). Walk p next n c.stages.due) end c.stages.invariant.walk) in
+    record { passed = lowest_more _ c.rows.row c.rows.invariant.passed right; none = c.stages.invariant.none }
 
-pub fault_number-requires : goal.fault_number-requires
-fault_number-requires c = few c.args.frame c.args.stages.now c.requires.0 c.u8_to_usize-rows.ensures.0
-
--- the row at which the loops were left is wrong
-pub returns : goal.returns
+pub returns-after-rows : goal.returns-after-rows
 unfolding faulty_row plan_over plan_read
-returns c =
-    let f = c.args.frame in
-    let bytes = c.args.stages.now in
-    let p = plan_over f bytes in
-    let h = few f bytes c.requires.0 c.u8_to_usize-rows.ensures.0 in
-    let left-wrong : c.rows.row < c.u8_to_usize-rows.result → upstream_row p (suc c.rows.row) ≡ false =
-    λ more. elim c.rows-test.branch [
-      | else-rows-test w ↦ absurd (omega arith)
-      | then-rows-test+then-stages-test+then-stages-weight w ↦
-          fault f bytes c.requires.0 c.rows.row w.stages.index w.stages.due (omega arith) w.stages.invariant w.stages-test.true c.args.ranks c.requires.2
-          w.u8_to_u16-limit.ensures w.due_weight-due.ensures w.if-stages-weight.true
-    ] in
-    fault_found (upstream_row p) c.u8_to_usize-rows.result c.rows.row _ c.rows.invariant.passed c.rows.invariant.within left-wrong c.fault_number.ensures
-    ∙ ap (λ (n : ℕ). lowest n (upstream_row p)) c.u8_to_usize-rows.ensures.0
+returns-after-rows c =
+    let p = plan_of c.args.plan in
+    c.rows.invariant.none ∙ fault_nowhere (upstream_row p) p.rows c.rows.row c.rows.invariant.passed (omega (arith, c.from-row-end.ensures))
+
+pub returns-then-plan-weight : goal.returns-then-plan-weight
+unfolding faulty_row plan_over plan_read
+returns-then-plan-weight c =
+    let f = c.args.plan.frame.now in
+    let bytes = c.args.plan.stages.now in
+    let p = plan_of c.args.plan in
+    let row = c.rows.row in
+    let h = few f bytes c.requires.0 c.from-row-end.ensures in
+    let wrong = fault f bytes c.requires.0 row c.stages.index c.stages.due (omega arith) c.stages.invariant.walk c.stages-test.true c.args.ranks.now c.requires.2
+    (c.from-limit.ensures, omega arith) c.due_weight-due.ensures c.if-plan-weight.true in
+    fault_here (upstream_row p) p.rows row c.rows.invariant.passed (omega (arith, c.from-row-end.ensures)) wrong

@@ -42,19 +42,18 @@ module _ (f : Frame) (bytes : List ℕ) (sound : Sound (plan_over f bytes)) wher
         rw e (ap (λ (s : Stage). lowest_rank f.resources s.demand f.rank) (sym here))
 
 pub slice_bounds-one_unit-end : goal.slice_bounds-one_unit-end
-slice_bounds-one_unit-end c = let h = whole c.args.frame c.args.stages.now c.requires in search rules
+slice_bounds-one_unit-end c = let h = whole c.args.plan.frame.now c.args.plan.stages.now c.requires in search rules
 
 pub loop-other-preserved : goal.loop-other-preserved
 loop-other-preserved c =
     let l = c.loop-other in
-    let f = c.args.frame in
-    let bytes = c.args.stages.now in
+    let f = c.args.plan.frame.now in
+    let bytes = c.args.plan.stages.now in
     let p = plan_over f bytes in
     record {
       passed =
           all_more (unit_entry p) l.other l.invariant.passed
           (unit-here f bytes c.requires l.other c.loop-other-test.true ∙ sym c.if-not-one_unit.ensures);
-      within = omega arith;
       full = simp length-set l.invariant.full;
       ranked =
           fill_more (λ i rank. rank ≡ lowest_rank p.resources (entry p.stages i no_stage).demand p.rank) l.ranks l.other _ (omega arith) l.invariant.ranked
@@ -64,11 +63,17 @@ loop-other-preserved c =
 pub returns-then-not-one_unit : goal.returns-then-not-one_unit
 returns-then-not-one_unit c =
     let l = c.loop-other in
-    let f = c.args.frame in (
+    let f = c.args.plan.frame.now in (
       record {
         before = l.invariant.passed;
-        within = l.invariant.within;
-        here = λ more. unit-here f c.args.stages.now c.requires l.other more ∙ sym c.if-not-one_unit.ensures;
+        within = omega arith;
+        here = λ more. unit-here f c.args.plan.stages.now c.requires l.other more ∙ sym c.if-not-one_unit.ensures;
       },
       l.invariant.ranked,
     )
+
+pub returns : goal.returns
+returns c =
+    let l = c.loop-other in
+    let whole : l.other ≡ 128 = omega arith in
+    rw (← whole) (record { before = l.invariant.passed; within = omega arith; here = λ more. absurd (omega arith) }, l.invariant.ranked)

@@ -1,8 +1,6 @@
-use Rattle.std.proofs.Common.{◌-◌, ◌*◌, ◌≤◌}
+-- Each job adds 100000 at most.
+use Rattle.std.proofs.Common.{◌*◌, ◌≤◌}
 use Rattle.test_states.proofs.space.state_of.Given as goal
 
-abbrev pub invariant-loop-i : goal.invariant-loop-i
-invariant-loop-i l = (l.i ≤ 64) × (l.marking ≤ 100000 * l.i)
-
-abbrev pub decreases-loop-i : goal.decreases-loop-i
-decreases-loop-i l = 64 - l.i
+abbrev pub invariant-loop-j : goal.invariant-loop-j
+invariant-loop-j l = l.marking ≤ 100000 * l.j-index

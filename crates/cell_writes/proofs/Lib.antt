@@ -1,0 +1,2 @@
+-- The law behind the code that writes.
+pub mod PartLaid

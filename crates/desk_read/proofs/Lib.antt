@@ -1,0 +1,2 @@
+-- What serves the proofs here.
+pub mod Turns

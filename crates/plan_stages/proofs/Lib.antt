@@ -1,0 +1,2 @@
+-- The laws behind the code.
+pub mod Parts

@@ -1,2 +1,0 @@
--- The bytes of a stage after a record.
-pub mod StageBytes

@@ -1,2 +1,0 @@
--- The laws behind the code: an entry of a stage among its bytes.
-pub mod StageEntries

@@ -1,0 +1,2 @@
+-- Reading on from line to line.
+pub mod Onward

@@ -1,2 +1,0 @@
--- What an event does to a table that is lent.
-pub mod Decision

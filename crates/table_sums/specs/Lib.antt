@@ -1,0 +1,2 @@
+-- What a search for a place answers.
+pub mod Places

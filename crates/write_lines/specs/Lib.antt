@@ -1,0 +1,2 @@
+-- The text in a buffer.
+pub mod Sink
