@@ -63,7 +63,7 @@ pub fn event_of(line: &[u8], ended: bool) -> EventLine
         return EventLine::Skipped;
     }
     match fields_of(line) {
-        Some(fields) => event_with(letter_of(line), fields),
-        None => EventLine::Malformed,
+        Ok(fields) => event_with(letter_of(line), fields),
+        Err(_) => EventLine::Malformed,
     }
 }

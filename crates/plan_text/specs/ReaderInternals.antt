@@ -17,9 +17,9 @@ use Rattle.plan_text.specs.declared.TextAnswer.TheVariants.{Accepted}
 abbrev pub value_read : List ℕ → Option ℕ
 value_read bs = cond (is_numeral bs) (Some (value_on 0 bs)) None
 
--- the fields of a line, where each is a numeral and there is no fifth
-abbrev pub fields_given : Fields → Option Fields
-fields_given fs = cond (leb fs.count 4) (Some fs) None
+-- the fields of a line as a program hands them on: a value where each is a numeral and there is no fifth, else the error
+abbrev pub fields_given : Fields → Result Fields Fields
+fields_given fs = cond (leb fs.count 4) (Ok fs) (Err fs)
 
 -- the numbers are in the ranges of the fields, by what a plan so far has
 abbrev pub FieldsInKnown : Known → ℕ → List Field → List ℕ → Type 0

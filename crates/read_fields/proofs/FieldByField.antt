@@ -2,14 +2,16 @@
 use Prim.Native.Nat.{ℕ, ◌+◌, ◌-◌, ◌<◌}
 use mathlib.Core.Bool.{and-false}
 use mathlib.Core.List.{List, ◌∷◌}
-use mathlib.Core.Path.{◌≡◌, refl, ap, ◌∙◌}
+use mathlib.Core.Path.{◌≡◌, refl, sym, ap, ◌∙◌}
 use lib.ListN.{length, take, drop, set}
 use borrow.Author.Tests.{lt-ltb}
 use Rattle.byte_slices.specs.Bytes.{slice, index_of}
 use Rattle.plan_text.specs.Lines.{tab, columns, fields_in}
 use Rattle.plan_text.specs.RecordTests.{is_numeral, fields_on}
 use Rattle.plan_text.specs.ReaderInternals.{value_read, fields_given}
-use Rattle.std.specs.Prelude.{Some, None}
+use Rattle.std.specs.Prelude.{Option, Some, None, Result, Err}
+use Rattle.std.specs.Option.{ok_or}
+use Rattle.plan_text.specs.declared.Fields.{Fields}
 use Rattle.plan_text.proofs.Split.{parts_after, after_separator, split_from}
 use Rattle.read_fields.proofs.Digits.{read_none, read_some}
 
@@ -31,10 +33,19 @@ module _ (line : List ℕ) where
 
 -- a field f, read behind n others
 module _ (n : ℕ) (xs f : List ℕ) (fs : List (List ℕ)) where
-  pub field_bad : value_read f ≡ None → fields_given (fields_on n xs (f ∷ fs)) ≡ None
+  -- the numbers before it, with the count that says that they are not all
+  abbrev too_many : Fields
+  too_many = record { count = 5; numbers = xs }
+
+  field_bad : value_read f ≡ None → fields_given (fields_on n xs (f ∷ fs)) ≡ Err too_many
   field_bad e = rw (read_none f e) refl
 
-  pub field_fifth : n ≡ 4 → fields_given (fields_on n xs (f ∷ fs)) ≡ None
+  pub field_refused : (o : Option ℕ) → o ≡ value_read f → (e : Fields) → ◌≡◌ {A = Result ℕ Fields} (Err e) (ok_or o too_many)
+      → Err e ≡ fields_given (fields_on n xs (f ∷ fs))
+  field_refused None h e k = let same : e ≡ too_many = cc in ap (λ (x : Fields). Err x) same ∙ sym (field_bad (sym h))
+  field_refused (Some x) h e k = absurd (cc)
+
+  pub field_fifth : n ≡ 4 → fields_given (fields_on n xs (f ∷ fs)) ≡ Err too_many
   field_fifth k = rw (k, and-false (is_numeral f)) refl
 
   pub field_next : (x : ℕ) → value_read f ≡ Some x → n < 4 → fields_on n xs (f ∷ fs) ≡ fields_on (n + 1) (set xs n x) fs

@@ -48,8 +48,9 @@ pub fn value_read(digits: &[u8]) -> Option<u32>
     Some(x)
 }
 
-// The fields go from tab to tab: `at` is the tab before the next one, and the length where no other is left.
-pub fn fields_of(line: &[u8]) -> Option<Fields>
+// The fields go from tab to tab: `at` is the tab before the next one, and the length where no other is left. Where one is no number or
+// there is a fifth, the error has a count of 5 and the numbers before it.
+pub fn fields_of(line: &[u8]) -> Result<Fields, Fields>
     ensures { result ≡ fields_given (fields_read (fields_in (columns line.now))) }
 {
     let mut numbers = [0u32; 4];
@@ -58,13 +59,13 @@ pub fn fields_of(line: &[u8]) -> Option<Fields>
     // no index is counted: it goes from tab to tab
     while at < line.len() {
         let end = find(line, at + 1, line.len(), b'\t');
-        let x = value_read(&line[at + 1..end])?;
+        let x = value_read(&line[at + 1..end]).ok_or(Fields { count: 5, numbers })?;
         if count == 4 {
-            return None;
+            return Err(Fields { count: 5, numbers });
         }
         numbers[count] = x;
         count += 1;
         at = end;
     }
-    Some(Fields { count, numbers })
+    Ok(Fields { count, numbers })
 }

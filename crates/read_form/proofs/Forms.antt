@@ -62,11 +62,11 @@ module _ (last : ℕ) (bytes : List ℕ) (ended : Bool) where
         bad_fields h = rw (plain, unskipped, letter, sym counted ∙ ne_eqb _ _ h) refl
 
         -- fields that are not given are not as many as are due
-        pub no_fields : None ≡ fields_given (fields_of_line bytes) → Err BadFields ≡ form
-        no_fields e =
+        pub no_fields : (fs : Fields) → Err fs ≡ fields_given (fields_of_line bytes) → Err BadFields ≡ form
+        no_fields fs e =
             bad_fields (λ (k : (fields_of_line bytes).count ≡ due).
             let given : leb (fields_of_line bytes).count 4 ≡ true = le-leb _ 4 (omega (arith, few)) in
-            let some : fields_given (fields_of_line bytes) ≡ Some (fields_of_line bytes) = rw given refl in
+            let some : fields_given (fields_of_line bytes) ≡ Ok (fields_of_line bytes) = rw given refl in
             cc)
 
         pub well_formed : (fields_of_line bytes).count ≡ due → Ok (Some (record_with (section_in bytes) (fields_of_line bytes).numbers)) ≡ form
@@ -78,9 +78,9 @@ module _ (last : ℕ) (bytes : List ℕ) (ended : Bool) where
             rw (plain, unskipped, letter, met, read) refl
 
 -- the fields that are given are those of the line
-pub given_fields : (bytes : List ℕ) (fs : Fields) → Some fs ≡ fields_given (fields_of_line bytes) → fs ≡ fields_of_line bytes
+pub given_fields : (bytes : List ℕ) (fs : Fields) → Ok fs ≡ fields_given (fields_of_line bytes) → fs ≡ fields_of_line bytes
 given_fields bytes fs = step (leb (fields_of_line bytes).count 4)
   where
-    step : (b : Bool) → Some fs ≡ cond b (Some (fields_of_line bytes)) None → fs ≡ fields_of_line bytes
+    step : (b : Bool) → Ok fs ≡ cond b (Ok (fields_of_line bytes)) (Err (fields_of_line bytes)) → fs ≡ fields_of_line bytes
     step true e = cc
     step false e = absurd (cc)

@@ -87,7 +87,7 @@ pub fn form_of(line: &[u8], ended: bool, last: u32) -> Result<Option<Record>, Te
     if !follows(last, section) {
         return Err(TextAnswer::BadLetter);
     }
-    let Some(fields) = fields_of(line) else {
+    let Ok(fields) = fields_of(line) else {
         return Err(TextAnswer::BadFields);
     };
     if fields.count != field_count(section) {

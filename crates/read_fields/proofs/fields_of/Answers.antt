@@ -1,9 +1,10 @@
 -- What is left to read from a tab on, after the numbers at hand, is what was to be read at the start.
 use Rattle.std.proofs.Common.{◌≡◌, ℕ, ◌+◌, ◌-◌, ◌<◌, List, ◌∷◌, length, take, drop, sym, ap, ◌∙◌, arith}
+use Rattle.std.proofs.lemmas.Result.{err_from_is_err_and}
 use Rattle.plan_text.specs.Lines.{columns, fields_in}
 use Rattle.plan_text.specs.RecordTests.{fields_on, fields_read}
 use Rattle.plan_text.specs.ReaderInternals.{fields_given}
-use Rattle.read_fields.proofs.FieldByField.{TabFound, fields_after, first_tab, next_tab, field_bad, field_fifth, field_next}
+use Rattle.read_fields.proofs.FieldByField.{TabFound, fields_after, first_tab, next_tab, field_refused, field_fifth, field_next}
 use Rattle.read_fields.proofs.fields_of.Goals as goal
 
 -- the field between two tabs
@@ -24,9 +25,10 @@ returns-in_err-x c =
     let line = c.args.line.now in
     let k = c.loop-at in
     let end = c.find-end.result in
-    c.from_residual.ensures
-    ∙ sym (ap fields_given (left line k.at end k.count k.numbers k.invariant.same c.loop-at-test.true c.find-end.ensures.first)
-    ∙ field_bad k.count k.numbers (field line k.at end) (fields_after line end) (sym c.in_err-x.ensures))
+    let p = err_from_is_err_and c.from_residual.result c.from_residual.ensures.1 in
+    rw (p.1, p.2)
+    (field_refused k.count k.numbers (field line k.at end) (fields_after line end) c.value_read.result c.value_read.ensures _ c.in_err-x.ensures.value
+    ∙ sym (ap fields_given (left line k.at end k.count k.numbers k.invariant.same c.loop-at-test.true c.find-end.ensures.first)))
 
 pub returns-then-count-eq4 : goal.returns-then-count-eq4
 returns-then-count-eq4 c =
@@ -47,5 +49,5 @@ loop-at-preserved c =
       few = omega arith;
       same =
           left line k.at end k.count k.numbers k.invariant.same c.loop-at-test.true c.find-end.ensures.first
-          ∙ field_next k.count k.numbers (field line k.at end) (fields_after line end) c.in_ok-x.x (sym c.in_ok-x.ensures) few;
+          ∙ field_next k.count k.numbers (field line k.at end) (fields_after line end) c.in_ok-x.x (sym c.value_read.ensures ∙ c.in_ok-x.ensures.ok_part) few;
     }
