@@ -2,10 +2,11 @@
 // record may be handed in.
 #![tactic(auto)]
 
-ghost use Rattle.std.specs.Prelude.{◌≡◌, ℕ, leb};
+ghost use Rattle.std.specs.Prelude.{◌≡◌, ℕ, leb, get_or, OnOk, OnErr};
 ghost use Rattle.model.specs.Numbers.{at, all_to};
+ghost use Rattle.model.specs.Plan.{no_stage};
 ghost use Rattle.plan_bytes.specs.Over.{stage_in, plan_read};
-ghost use Rattle.plan_text.specs.Draft.{empty_draft, index_named, of_section, stage_here, held_in, draft_after};
+ghost use Rattle.plan_text.specs.Draft.{empty_draft, index_named, of_section, held_in, draft_after};
 ghost use Rattle.plan_text.specs.Reading.{within_total, is_complete};
 ghost use Rattle.plan_text.specs.ReaderInternals.{unless_refused, record_answer, narrowed};
 ghost use Rattle.read_draft.specs.Drafted.{drafted, staged};
@@ -114,11 +115,10 @@ impl FramedDraft {
         }
     }
 
-    // The bytes of the stage that a record names.
-    fn stage_named(&self, rec: Record) -> &[u8]
-        ensures { stage_in result.now ≡ stage_here (plan_read self.now.frame self.now.stages) rec }
+    // The bytes of the stage at an index.
+    fn stage_at(&self, index: usize) -> &[u8]
+        ensures { stage_in result.now ≡ get_or (plan_read self.now.frame self.now.stages).stages index no_stage }
     {
-        let index = index_named(rec, &self.frame.lengths);
         if index < 128 {
             &self.stages[index * 64..index * 64 + 64]
         } else {
@@ -126,29 +126,29 @@ impl FramedDraft {
         }
     }
 
-    // What stands under the record's key: of a C the section of the last record, else an entry.
-    fn held(&self, rec: Record) -> u32
+    // What stands under the record's key: of a C the section of the last record, else an entry. `index` is where the stage stands that it names.
+    fn held_at(&self, rec: Record, index: usize) -> u32
+        requires { index ≡ index_named self.now.frame.lengths rec }
         ensures { result ≡ held_in (drafted self.now) rec }
     {
-        let stage = self.stage_named(rec);
         match rec.section {
             1 => self.section,
             2 => entry_of(&self.frame.capacity, rec.first),
             3 => entry_of(&self.frame.lengths, rec.first),
-            4 => demand_in(stage, rec.third),
+            4 => demand_in(self.stage_at(index), rec.third),
             5 => entry_of(&self.bounded, rec.first),
-            6 => weight_in(stage, rec.first),
+            6 => weight_in(self.stage_at(index), rec.first),
             7 => entry_of(&self.frame.rank, rec.first),
             _ => 0,
         }
     }
 
-    // Questions 5 and 6 of a record, and then 5 of all types together.
-    pub fn answer(&self, rec: Record) -> Result<(), TextAnswer>
+    fn answer_at(&self, rec: Record, index: usize) -> Result<(), TextAnswer>
+        requires { index ≡ index_named self.now.frame.lengths rec }
         ensures { result ≡ unless_refused (record_answer (drafted self.now) rec) tt }
     {
         let ranged = in_ranges(rec, &self.frame);
-        let first = self.held(rec) == 0;
+        let first = self.held_at(rec, index) == 0;
         let within = within_total(rec, &self.frame.lengths);
         if !ranged {
             return Err(TextAnswer::OutOfRange);
@@ -160,6 +160,13 @@ impl FramedDraft {
             return Err(TextAnswer::OutOfRange);
         }
         Ok(())
+    }
+
+    // Questions 5 and 6 of a record, and then 5 of all types together.
+    pub fn answer(&self, rec: Record) -> Result<(), TextAnswer>
+        ensures { result ≡ unless_refused (record_answer (drafted self.now) rec) tt }
+    {
+        self.answer_at(rec, index_named(rec, &self.frame.lengths))
     }
 
     // Has every row its bound?
@@ -186,17 +193,17 @@ impl FramedDraft {
     }
 
     // The demand of an S or the weight of an A, in the stage that it names.
-    fn write_named(&mut self, rec: Record)
+    fn write_named(&mut self, rec: Record, index: usize)
+        requires { index ≡ index_named self.old.frame.lengths rec }
         ensures { drafted self.new ≡ staged (drafted self.old) rec }
     {
-        let index = index_named(rec, &self.frame.lengths);
         if index < 128 {
             write_stage(rec, &mut self.stages[index * 64..index * 64 + 64]);
         }
     }
 
-    // Writes the one entry of the record's key, or the counts.
-    pub fn write(&mut self, rec: Record)
+    fn write_at(&mut self, rec: Record, index: usize)
+        requires { index ≡ index_named self.old.frame.lengths rec }
         ensures { drafted self.new ≡ draft_after (drafted self.old) (narrowed rec) }
     {
         let value = (rec.second % 256) as u8;
@@ -209,7 +216,7 @@ impl FramedDraft {
             }
             2 => put_entry(&mut self.frame.capacity, rec.first, value),
             3 => put_entry(&mut self.frame.lengths, rec.first, value),
-            4 | 6 => self.write_named(rec),
+            4 | 6 => self.write_named(rec, index),
             5 => {
                 put_bound(
                     &mut self.frame.bound,
@@ -221,5 +228,25 @@ impl FramedDraft {
             7 => put_entry(&mut self.frame.rank, rec.first, value),
             _ => {}
         }
+    }
+
+    // Writes the one entry of the record's key, or the counts.
+    pub fn write(&mut self, rec: Record)
+        ensures { drafted self.new ≡ draft_after (drafted self.old) (narrowed rec) }
+    {
+        let index = index_named(rec, &self.frame.lengths);
+        self.write_at(rec, index);
+    }
+
+    // Asks as `answer` does and, where the record is refused by no question, writes it as `write` does: the stage that it names is looked up once for both.
+    pub fn try_write(&mut self, rec: Record) -> Result<(), TextAnswer>
+        ensures answer { result ≡ unless_refused (record_answer (drafted self.old) rec) tt }
+        ensures written { OnOk result (drafted self.new ≡ draft_after (drafted self.old) (narrowed rec)) }
+        ensures kept { OnErr result (self.new ≡ self.old) }
+    {
+        let index = index_named(rec, &self.frame.lengths);
+        self.answer_at(rec, index)?;
+        self.write_at(rec, index);
+        Ok(())
     }
 }

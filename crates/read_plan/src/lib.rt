@@ -57,9 +57,7 @@ fn read_line(line: TextLine<'_>, draft: &mut FramedDraft) -> Result<(), TextAnsw
     let Some(rec) = form_of(line.bytes, line.ended, draft.section)? else {
         return Ok(());
     };
-    draft.answer(rec)?;
-    draft.write(rec);
-    Ok(())
+    draft.try_write(rec)
 }
 
 fn read_lines(text: &[u8]) -> FramedReading

@@ -1,5 +1,6 @@
 -- The line is refused for its form or for its record, or it is taken.
-use Rattle.std.proofs.Common.{sym, ap, ◌∙◌}
+use Rattle.std.proofs.Common.{◌≡◌, sym, ap, subst, ◌∙◌}
+use Rattle.std.specs.Prelude.{OnOk}
 use Rattle.std.proofs.lemmas.Result.{err_from_is_err_and}
 use Rattle.plan_text.specs.Lines.{Line}
 use Rattle.plan_text.specs.Draft.{draft_after}
@@ -32,22 +33,13 @@ returns-in_default-clause-written c =
     let none = none_record l.bytes (sym c.in_default.is ∙ formed d l _ c.in_ok-rec.ensures) in
     sym (ap (λ (r : Record). draft_after d (narrowed r)) none ∙ nothing_written d)
 
-pub returns-in_err-answer-clause-answer : goal.returns-in_err-answer-clause-answer
-returns-in_err-answer-clause-answer c =
-    let a = c.args in
-    let l : Line = record { bytes = a.line.bytes.now; ended = a.line.ended } in
-    let d = drafted a.draft.now in
-    let p = err_from_is_err_and c.from_residual-in_err-answer.result c.from_residual-in_err-answer.ensures.1 in
-    let same = some_record l.bytes c.in-Some.rec (sym c.in-Some.is ∙ formed d l _ c.in_ok-rec.ensures) in
-    rw (p.1, p.2) (record_handed d l _ c.in_ok-rec.ensures c.in-Some.rec same _ c.in_err-answer.ensures)
-
 pub returns-clause-answer : goal.returns-clause-answer
 returns-clause-answer c =
     let a = c.args in
     let l : Line = record { bytes = a.line.bytes.now; ended = a.line.ended } in
     let d = drafted a.draft.now in
     let same = some_record l.bytes c.in-Some.rec (sym c.in-Some.is ∙ formed d l _ c.in_ok-rec.ensures) in
-    record_handed d l _ c.in_ok-rec.ensures c.in-Some.rec same _ c.in_ok-answer.ensures
+    record_handed d l _ c.in_ok-rec.ensures c.in-Some.rec same _ c.try_write.ensures.answer
 
 pub returns-clause-written : goal.returns-clause-written
 returns-clause-written c =
@@ -55,4 +47,4 @@ returns-clause-written c =
     let l : Line = record { bytes = a.line.bytes.now; ended = a.line.ended } in
     let d = drafted a.draft.now in
     let same = some_record l.bytes c.in-Some.rec (sym c.in-Some.is ∙ formed d l _ c.in_ok-rec.ensures) in
-    c.write.ensures ∙ ap (λ (r : Record). draft_after d (narrowed r)) same
+    subst (λ (r : Record). OnOk c.try_write.result (drafted c.try_write.new.self ≡ draft_after d (narrowed r))) same c.try_write.ensures.written

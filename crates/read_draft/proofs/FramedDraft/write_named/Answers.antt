@@ -19,8 +19,8 @@ returns-then-index-lt128 c =
     let old : Draft = drafted d in
     let stages = old.plan.stages in
     ap (λ (ss : List Stage). record old { plan = record old.plan { stages = ss } })
-    (put_here d.frame d.stages c.index_named-index.result c.if-index-lt128.true whole c.write_stage.new.stage r c.write_stage.ensures
-    ∙ ap (λ (i : ℕ). set stages i (stage_after_record (get_or stages i no_stage) r)) c.index_named-index.ensures)
+    (put_here d.frame d.stages c.args.index c.if-index-lt128.true whole c.write_stage.new.stage r c.write_stage.ensures
+    ∙ ap (λ (i : ℕ). set stages i (stage_after_record (get_or stages i no_stage) r)) c.requires)
 
 pub returns-else-index-lt128 : goal.returns-else-index-lt128
 unfolding plan_read
@@ -29,7 +29,7 @@ returns-else-index-lt128 c =
     let r = narrowed c.args.rec in
     let old : Draft = drafted d in
     let stages = old.plan.stages in
-    let i = c.index_named-index.result in
+    let i = c.args.index in
     ap (λ (ss : List Stage). record old { plan = record old.plan { stages = ss } })
     (none_put d.frame d.stages i (stage_after_record (get_or stages i no_stage) r) c.if-index-lt128.false
-    ∙ ap (λ (i : ℕ). set stages i (stage_after_record (get_or stages i no_stage) r)) c.index_named-index.ensures)
+    ∙ ap (λ (i : ℕ). set stages i (stage_after_record (get_or stages i no_stage) r)) c.requires)

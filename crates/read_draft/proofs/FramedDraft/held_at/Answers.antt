@@ -1,13 +1,15 @@
 -- Each section has its own list and number, and a section that there is not has 0.
 use Rattle.std.proofs.Common.{ℕ, refl, rules, sym, ap, ◌∙◌, List, [], ◌∷◌}
+use lib.ListN.{get_or}
 use Rattle.model.specs.Numbers.{at, entry}
+use Rattle.model.specs.Plan.{no_stage}
 use Rattle.model.specs.declared.Stage.{Stage}
 use Rattle.plan_bytes.specs.Over.{plan_read}
 use Rattle.plan_entry.proofs.Outside.{unmatched}
 use Rattle.plan_text.specs.Draft.{stage_here, held_in}
 use Rattle.plan_text.specs.declared.Record.{Record}
 use Rattle.read_draft.specs.declared.FramedDraft.{FramedDraft}
-use Rattle.read_draft.proofs.FramedDraft.held.Goals as goal
+use Rattle.read_draft.proofs.FramedDraft.held_at.Goals as goal
 
 -- what is held, section by section
 abbrev numbers : FramedDraft → Record → List ℕ
@@ -37,7 +39,9 @@ returns-in-3 c = rw c.in-3.is (c.entry_of-in-3.ensures)
 pub returns-in-4 : goal.returns-in-4
 unfolding held_in plan_read
 returns-in-4 c =
-    let named = ap (λ (s : Stage). at s.demand c.args.rec.third) c.stage_named-stage.ensures in
+    let d = c.args.self.now in
+    let stage = c.stage_at.ensures ∙ ap (λ (i : ℕ). get_or (plan_read d.frame d.stages).stages i no_stage) c.requires in
+    let named = ap (λ (s : Stage). at s.demand c.args.rec.third) stage in
     c.demand_in.ensures ∙ named ∙ ap (λ (n : ℕ). entry (numbers c.args.self.now c.args.rec) n 0) (sym c.in-4.is)
 
 pub returns-in-5 : goal.returns-in-5
@@ -47,7 +51,9 @@ returns-in-5 c = rw c.in-5.is (c.entry_of-in-5.ensures)
 pub returns-in-6 : goal.returns-in-6
 unfolding held_in plan_read
 returns-in-6 c =
-    let named = ap (λ (s : Stage). at s.weight c.args.rec.first) c.stage_named-stage.ensures in
+    let d = c.args.self.now in
+    let stage = c.stage_at-in-6.ensures ∙ ap (λ (i : ℕ). get_or (plan_read d.frame d.stages).stages i no_stage) c.requires in
+    let named = ap (λ (s : Stage). at s.weight c.args.rec.first) stage in
     c.weight_in.ensures ∙ named ∙ ap (λ (n : ℕ). entry (numbers c.args.self.now c.args.rec) n 0) (sym c.in-6.is)
 
 pub returns-in-7 : goal.returns-in-7

@@ -1,7 +1,7 @@
 -- What is written is the one entry of the record's key, or the counts.
 use Rattle.std.proofs.Common.{rules, refl, ◌∙◌}
 use Rattle.read_draft.proofs.Written.{counts_written, capacity_written, lengths_written, bound_written, rank_written, stage_written, nothing_written}
-use Rattle.read_draft.proofs.FramedDraft.write.Goals as goal
+use Rattle.read_draft.proofs.FramedDraft.write_at.Goals as goal
 
 pub returns-in-1 : goal.returns-in-1
 returns-in-1 c = counts_written c.args.self.now c.args.rec _ c.section_after-self.ensures _ _ _ c.in-1.is refl refl refl
