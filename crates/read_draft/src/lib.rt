@@ -126,7 +126,8 @@ impl FramedDraft {
         }
     }
 
-    // What stands under the record's key: of a C the section of the last record, else an entry. `index` is where the stage stands that it names.
+    // What stands under the record's key: of a C the section of the last record, else an entry. `index` is that of the stage that the record names, here
+    // and below, so that a record that is asked and written has it found once.
     fn held_at(&self, rec: Record, index: usize) -> u32
         requires { index ≡ index_named self.now.frame.lengths rec }
         ensures { result ≡ held_in (drafted self.now) rec }
@@ -238,7 +239,7 @@ impl FramedDraft {
         self.write_at(rec, index);
     }
 
-    // Asks as `answer` does and, where the record is refused by no question, writes it as `write` does: the stage that it names is looked up once for both.
+    // Asks as `answer` does and, where no question refuses the record, writes it as `write` does.
     pub fn try_write(&mut self, rec: Record) -> Result<(), TextAnswer>
         ensures answer { result ≡ unless_refused (record_answer (drafted self.old) rec) tt }
         ensures written { OnOk result (drafted self.new ≡ draft_after (drafted self.old) (narrowed rec)) }
