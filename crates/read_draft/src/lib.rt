@@ -132,13 +132,14 @@ impl FramedDraft {
         requires { index ≡ index_named self.now.frame.lengths rec }
         ensures { result ≡ held_in (drafted self.now) rec }
     {
+        let stage = self.stage_at(index);
         match rec.section {
             1 => self.section,
             2 => entry_of(&self.frame.capacity, rec.first),
             3 => entry_of(&self.frame.lengths, rec.first),
-            4 => demand_in(self.stage_at(index), rec.third),
+            4 => demand_in(stage, rec.third),
             5 => entry_of(&self.bounded, rec.first),
-            6 => weight_in(self.stage_at(index), rec.first),
+            6 => weight_in(stage, rec.first),
             7 => entry_of(&self.frame.rank, rec.first),
             _ => 0,
         }

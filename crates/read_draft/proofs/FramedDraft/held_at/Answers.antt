@@ -40,7 +40,7 @@ pub returns-in-4 : goal.returns-in-4
 unfolding held_in plan_read
 returns-in-4 c =
     let d = c.args.self.now in
-    let stage = c.stage_at.ensures ∙ ap (λ (i : ℕ). get_or (plan_read d.frame d.stages).stages i no_stage) c.requires in
+    let stage = c.stage_at-stage.ensures ∙ ap (λ (i : ℕ). get_or (plan_read d.frame d.stages).stages i no_stage) c.requires in
     let named = ap (λ (s : Stage). at s.demand c.args.rec.third) stage in
     c.demand_in.ensures ∙ named ∙ ap (λ (n : ℕ). entry (numbers c.args.self.now c.args.rec) n 0) (sym c.in-4.is)
 
@@ -52,7 +52,7 @@ pub returns-in-6 : goal.returns-in-6
 unfolding held_in plan_read
 returns-in-6 c =
     let d = c.args.self.now in
-    let stage = c.stage_at-in-6.ensures ∙ ap (λ (i : ℕ). get_or (plan_read d.frame d.stages).stages i no_stage) c.requires in
+    let stage = c.stage_at-stage.ensures ∙ ap (λ (i : ℕ). get_or (plan_read d.frame d.stages).stages i no_stage) c.requires in
     let named = ap (λ (s : Stage). at s.weight c.args.rec.first) stage in
     c.weight_in.ensures ∙ named ∙ ap (λ (n : ℕ). entry (numbers c.args.self.now c.args.rec) n 0) (sym c.in-6.is)
 
