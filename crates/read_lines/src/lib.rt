@@ -80,7 +80,7 @@ impl<'a> Iterator for LineReader<'a> {
         }
         self.at = span.next;
         Some(TextLine {
-            bytes: part_of(text, at, span.end),
+            bytes: &text[at..span.end],
             ended: span.ended,
         })
     }
