@@ -1,4 +1,4 @@
-use Rattle.std.proofs.Common.{arith, ap, sym, refl, ◌∙◌, ◌≡◌, true, ℕ}
+use Rattle.std.proofs.Common.{arith, ap, sym, refl, ◌∙◌, ◌≡◌, ◌<◌, true, ℕ}
 use Rattle.model.specs.Numbers.{at, sum_to, all_to}
 use Rattle.model.specs.Soundness.{sound}
 use Rattle.model.proofs.Search.{all_more, all_fails}
@@ -27,8 +27,9 @@ returns-then-not-sound_stage c =
     let ok = sym c.if-not-sound_lists.ensures.lists in
     let few = stages_within f ok in
     let total = total_is f c.from.ensures c.total_of-total.ensures in
+    let inside : i < stages_of f = omega arith in
     let answers = lent_sound f bytes i (omega arith) c.from-resources.ensures c.from-rows.ensures in
-    let fails = all_fails (lent_stage f bytes) (stages_of f) i (omega arith) (answers ∙ sym c.if-not-sound_stage.ensures) in
+    let fails = all_fails (lent_stage f bytes) (stages_of f) i inside (answers ∙ sym c.if-not-sound_stage.ensures) in
     sym (sound_lent f bytes c.if-plan-ne8192.false ok ∙ rw fails refl)
 
 pub loop-i-preserved : goal.loop-i-preserved
