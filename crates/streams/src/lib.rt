@@ -9,7 +9,7 @@ use std::io;
 use std::io::{Read, Write};
 
 // How many bytes came, and the failure that kept more from coming, if a read failed.
-#[derive(Drop)]
+#[derive(Clone, Copy)]
 pub struct Filled {
     pub count: usize,
     pub failure: Option<io::Error>,
