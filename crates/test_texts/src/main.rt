@@ -41,11 +41,11 @@ impl Cases {
         inputs::case(self.to, name, part_of(&self.buffer, 0, n), &mut self.out);
     }
 
-    // Without a space the text is empty.
+    // Without a space the text is empty; but of a line of 65,536 bytes, the whole input, it is what stands behind the first byte, as it always was.
     fn line(&mut self, line: &[u8]) {
         let end = line.iter().position(|b| *b == b' ').unwrap_or(line.len());
         let name = part_of(line, 0, end);
-        let notation = part_of(line, end + 1, line.len());
+        let notation = part_of(line, end % 65536 + 1, line.len());
         match name {
             [] | [b'#', ..] => {}
             [b'>', ..] => self.kept = put_text(notation, &mut self.buffer, 0),
