@@ -6,7 +6,7 @@ ghost use Rattle.std.specs.Prelude.{◌≡◌, get_or};
 ghost use Rattle.model.specs.Jobs.{no_job};
 ghost use Rattle.events.specs.JobList.{jobs_of};
 ghost use Rattle.internals.specs.Internals.{found_in, with_job, with_replaced, without_job};
-ghost use Rattle.internals.specs.JobNumbers.{jobs_laid, list_lent, applied};
+ghost use Rattle.internals.specs.JobNumbers.{jobs_laid, list_lent, changed_by, applied};
 
 use events::{Answer, JobList, ListOutcome};
 use internals::{Change, Found, LentJobs};
@@ -100,21 +100,26 @@ pub fn without_job(t: JobList, at: usize) -> JobList
     next
 }
 
+// A change made in a list, whatever the answer beside it.
+pub fn changed_by(t: JobList, change: Change) -> JobList
+    ensures { result ≡ changed_by t change }
+{
+    match change {
+        Change::Added(job) => with_job(t, job),
+        Change::Moved { at, job } => with_replaced(t, at, job),
+        Change::Removed(at) => without_job(t, at),
+    }
+}
+
 // What an event that was judged so leads to.
 pub fn changed(t: JobList, judged: Result<Change, Answer>) -> ListOutcome
     ensures { result ≡ applied t judged }
 {
-    let change = match judged {
-        Ok(change) => change,
-        Err(answer) => return ListOutcome { answer, list: t },
-    };
-    let list = match change {
-        Change::Added(job) => with_job(t, job),
-        Change::Moved { at, job } => with_replaced(t, at, job),
-        Change::Removed(at) => without_job(t, at),
-    };
-    ListOutcome {
-        answer: Answer::Admitted,
-        list,
+    match judged {
+        Ok(change) => ListOutcome {
+            answer: Answer::Admitted,
+            list: changed_by(t, change),
+        },
+        Err(answer) => ListOutcome { answer, list: t },
     }
 }
