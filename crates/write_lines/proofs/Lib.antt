@@ -1,4 +1,4 @@
--- A byte of a sink, what is said of a sink, and how long an event's line is.
+-- A byte of a sink, what is said of a sink, and how long the lines of the output are.
 pub mod Bytes
 pub mod Sinks
-pub mod EventLines
+pub mod Lengths

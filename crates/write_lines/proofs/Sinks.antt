@@ -8,7 +8,7 @@ use lib.ListN.{length, take, length-append}
 use lib.Seq.{take_all, take-nil}
 use Rattle.std.proofs.lemmas.List.{length-take}
 use Rattle.moves_text.specs.Buffer.{overlaid, overlaid_at}
-use Rattle.moves_text.proofs.Overlays.{overlaid_at_then, overlaid_at_length, none_laid}
+use Rattle.moves_text.proofs.Overlays.{overlaid_at_then, overlaid_at_length, overlaid_within, none_laid}
 use Rattle.write_lines.specs.Sink.{with_text}
 use Rattle.write_lines.specs.declared.Sink.{Sink}
 
@@ -61,6 +61,13 @@ pub behind_whole : (text : List ℕ) (s t : Sink) → t ≡ with_text text s →
     → (t.at ≡ s.at + length text) × (t.buffer.now ≡ overlaid_at s.at text s.buffer.now)
 behind_whole text s t put counted =
     let w = text_whole text s counted in (ap (λ (u : Sink). u.at) put ∙ w.0, ap (λ (u : Sink). u.buffer.now) put ∙ w.1)
+
+-- of a sink that begins at an offset of the buffer, or where that is beyond it at its end
+pub put_at : (text : List ℕ) (at : ℕ) (s t : Sink) → s.at ≡ min at (length s.buffer.now) → t ≡ with_text text s → s.at + length text ≤ 18446744073709551615
+    → (t.at ≡ s.at + length text) × (t.buffer.now ≡ overlaid_at at text s.buffer.now)
+put_at text at s t from put counted =
+    let w = behind_whole text s t put counted in
+    (w.0, w.1 ∙ ap (λ k. overlaid_at k text s.buffer.now) from ∙ overlaid_within at text s.buffer.now)
 
 -- of a sink that had nothing
 module _ (text : List ℕ) (s t : Sink) (new : s.at ≡ 0) (put : t ≡ with_text text s) where

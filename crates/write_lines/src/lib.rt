@@ -2,7 +2,7 @@
 // the whole: so a buffer of no bytes measures.
 #![tactic(auto)]
 
-ghost use Rattle.std.specs.Prelude.{◌≡◌, ◌∷◌, [], ◌++◌, length};
+ghost use Rattle.std.specs.Prelude.{◌≡◌, ◌∷◌, [], ◌++◌, ◌≤◌, length, min};
 ghost use Rattle.moves_text.specs.Decimals.{decimal};
 ghost use Rattle.moves_text.specs.OutputLines.{plan_line, check_line, event_line};
 ghost use Rattle.moves_text.specs.Buffer.{overlaid, overlaid_at};
@@ -82,9 +82,10 @@ impl<'a> Sink<'a> {
     }
 
     // An event's ordinal, its answer, its place, and the jobs active afterwards. In 64 bits, since a program may go on answering.
-    #[tactic(auto, using(crate::proofs::Sinks::text_then, std::proofs::lemmas::List::append_assoc))]
+    #[tactic(auto, using(crate::proofs::Sinks::text_then, crate::proofs::Lengths::event_line_bounded, std::proofs::lemmas::List::append_assoc))]
     pub fn put_event_line(&mut self, ordinal: u64, number: u32, place: u32, active: u64)
-        ensures { self.new ≡ with_text (event_line ordinal number place active) self.old }
+        ensures value { self.new ≡ with_text (event_line ordinal number place active) self.old }
+        ensures upper_bound { length (event_line ordinal number place active) ≤ 84 }
     {
         self.put_field(ordinal, b'\t');
         self.put_field(u64::from(number), b'\t');
@@ -102,10 +103,61 @@ fn lay(text: &[u8], buffer: &mut [u8]) -> usize
     text.len()
 }
 
-// From an offset of a buffer on, by whoever has no text before it.
+// An offset beyond the buffer is its end, so that the length of a text can be told at every offset.
+fn offset_within(buffer: &[u8], at: usize) -> usize
+    ensures { result ≡ min at (length buffer.now) }
+{
+    at.min(buffer.len())
+}
+
+// What stands below puts a text from an offset of a buffer on, for whoever has no sink.
 pub fn put_text(text: &[u8], buffer: &mut [u8], at: usize) -> usize
     ensures { (result ≡ length text.now) × (buffer.new ≡ overlaid_at at text.now buffer.old) }
 {
-    let from = at.min(buffer.len());
+    let from = offset_within(buffer, at);
     lay(text, &mut buffer[from..])
+}
+
+pub fn put_decimal(n: u64, buffer: &mut [u8], at: usize) -> usize
+    ensures { (result ≡ length (decimal n)) × (buffer.new ≡ overlaid_at at (decimal n) buffer.old) }
+{
+    let from = offset_within(buffer, at);
+    let mut out = Sink { buffer, at: from };
+    out.put_decimal(n);
+    out.at - from
+}
+
+pub fn put_plan_line(number: u32, line: u32, buffer: &mut [u8], at: usize) -> usize
+    ensures { (result ≡ length (plan_line number line)) × (buffer.new ≡ overlaid_at at (plan_line number line) buffer.old) }
+{
+    let from = offset_within(buffer, at);
+    let mut out = Sink { buffer, at: from };
+    out.put_plan_line(number, line);
+    out.at - from
+}
+
+pub fn put_check_line(number: u32, first: u32, second: u32, buffer: &mut [u8], at: usize) -> usize
+    ensures { (result ≡ length (check_line number first second)) × (buffer.new ≡ overlaid_at at (check_line number first second) buffer.old) }
+{
+    let from = offset_within(buffer, at);
+    let mut out = Sink { buffer, at: from };
+    out.put_check_line(number, first, second);
+    out.at - from
+}
+
+pub fn put_event_line(
+    ordinal: u64,
+    number: u32,
+    place: u32,
+    active: u64,
+    buffer: &mut [u8],
+    at: usize,
+) -> usize
+    ensures value { (result ≡ length (event_line ordinal number place active)) × (buffer.new ≡ overlaid_at at (event_line ordinal number place active) buffer.old) }
+    ensures upper_bound { result ≤ 84 }
+{
+    let from = offset_within(buffer, at);
+    let mut out = Sink { buffer, at: from };
+    out.put_event_line(ordinal, number, place, active);
+    out.at - from
 }

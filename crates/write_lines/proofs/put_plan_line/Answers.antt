@@ -1,0 +1,19 @@
+-- It is put from the offset on, into the buffer that was lent.
+use Rattle.std.proofs.Common.{arith}
+use Rattle.moves_text.specs.OutputLines.{plan_line}
+use Rattle.write_lines.proofs.Lengths.{plan_line_bounded}
+use Rattle.write_lines.proofs.Sinks.{put_at, same_lent}
+use Rattle.write_lines.proofs.put_plan_line.Goals as goal
+
+pub overflow_sub-result : goal.overflow_sub-result
+overflow_sub-result c =
+    let a = c.args in
+    let put = put_at (plan_line a.number a.line) a.at _ _ c.offset_within-from.ensures c.put_plan_line.ensures (omega (arith, c.offset_within-from.ensures, plan_line_bounded a.number a.line (omega arith) (omega arith))) in
+    omega (arith, put.0)
+
+pub returns : goal.returns
+returns c =
+    let a = c.args in
+    let put = put_at (plan_line a.number a.line) a.at _ _ c.offset_within-from.ensures c.put_plan_line.ensures (omega (arith, c.offset_within-from.ensures, plan_line_bounded a.number a.line (omega arith) (omega arith))) in
+    let lent = same_lent (plan_line a.number a.line) _ _ c.put_plan_line.ensures in
+    (omega (arith, put.0), grind arith)
