@@ -1,6 +1,7 @@
 -- The line of a record has at most 46 bytes, for any numbers of 32 bits: a letter, an LF, and four fields of a tab and ten digits. So n lists of
 -- records have at most n times the bytes of one.
 use Prim.Native.Nat.{ℕ, zero, suc, ◌+◌, ◌*◌, ◌≤◌, ◌<◌}
+use native.Mathlib.Numerals.{add-one}
 use native.Mathlib.Omega.{arith}
 use mathlib.Core.Bool.{Bool, true, false, cond}
 use mathlib.Core.List.{List, [], ◌∷◌, ◌++◌, map, append-nil}
@@ -9,12 +10,13 @@ use lib.Dec.{eqb}
 use lib.ListN.{length, length-append, take}
 use Rattle.model.specs.Numbers.{Each, InRange, at}
 use Rattle.plan_text.specs.Lines.{line_end, tab}
-use Rattle.plan_text.specs.Records.{layout_of, numbers_of}
-use Rattle.plan_text.specs.Meaning.{B}
+use Rattle.plan_text.specs.Records.{section_s, section_a, layout_of, numbers_of}
+use Rattle.plan_text.specs.Meaning.{B, line}
 use Rattle.plan_text.specs.declared.Record.{Record}
 use Rattle.moves_text.specs.Decimals.{decimal, line_with}
 use Rattle.moves_text.proofs.Decimals.{decimal_short}
 use Rattle.canonical_text.specs.CanonicalText.{list_to, valued, entry_records, bound_records, letter_of, record_text, text_of}
+use Rattle.canonical_text.specs.WriterInternals.{entry_of}
 use Rattle.canonical_text.proofs.Lists.{text_append}
 
 -- a number of 32 bits
@@ -61,6 +63,25 @@ lists_short most zero f h = omega arith
 lists_short most (suc n) f h =
     let rest = lists_short most n f (λ i w. h i (w.0, omega (arith, w.1))) in
     rw (text_append (list_to n f) (f (suc n)), length-append) (omega (arith, rest, h (suc n) (omega arith, omega arith)))
+
+-- one list more
+pub list_more : (few most : ℕ) (f : ℕ → List Record) (i : ℕ) → length (text_of (list_to i f)) ≤ few → length (text_of (f (i + 1))) ≤ most
+    → length (text_of (list_to (i + 1) f)) ≤ few + most
+list_more few most f i before next =
+    let whole : text_of (list_to (i + 1) f) ≡ text_of (list_to i f) ++ text_of (f (i + 1)) = rw add-one (text_append (list_to i f) (f (suc i))) in
+    omega (arith, ap length whole, length-append (text_of (list_to i f)) (text_of (f (i + 1))), before, next)
+
+-- the record of an entry, like another, has its numbers and those of the entry
+pub entry_small : (like : Record) (i v : ℕ) → Each Small (numbers_of like) → Small i → Small v → Each Small (numbers_of (entry_of like i v))
+entry_small like i v h n w = go (eqb like.section section_s) (eqb like.section section_a)
+  where
+    behind : Record
+    behind = line like.section like.first like.second i v
+
+    go : (s a : Bool) → Each Small (numbers_of (cond s behind (cond a behind (line like.section i v 0 0))))
+    go true a = (h.0, (h.1.0, (n, (w, tt))))
+    go false true = (h.0, (h.1.0, (n, (w, tt))))
+    go false false = (n, (w, (omega arith, (omega arith, tt))))
 
 -- the records of a list's entries, and of the bounds
 pub entries_short : (of : ℕ → ℕ → Record) (n : ℕ) (xs : List ℕ) → ((i : ℕ) → InRange i n → Each Small (numbers_of (of i (at xs i))))

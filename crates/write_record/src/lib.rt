@@ -74,7 +74,8 @@ fn put_digits(n: u32, line: &mut [u8], at: usize) -> usize
 // A line is made by itself, at an offset, and put at once: put byte by byte into the sink, the largest plan costs 1.48 times the instructions.
 #[tactic(auto, using(crate::proofs::Fields::line_whole))]
 pub fn put_record(rec: Record, out: &mut Sink<'_>)
-    ensures { out.new ≡ with_text (record_text rec) out.old }
+    ensures value { out.new ≡ with_text (record_text rec) out.old }
+    ensures upper_bound { length (record_text rec) ≤ 46 }
 {
     let numbers = [rec.first, rec.second, rec.third, rec.fourth];
     let mut line = [0u8; 64];

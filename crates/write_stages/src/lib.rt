@@ -25,7 +25,8 @@ fn put_stage(
     out: &mut Sink<'_>,
 )
     requires { length plan.stages.now ≡ 8192 }
-    ensures { out.new ≡ with_text (text_of (stage_records plan.entry.frame.now.resources row kind stage (stage_read plan.entry.stages.now index))) out.old }
+    ensures value { out.new ≡ with_text (text_of (stage_records plan.entry.frame.now.resources row kind stage (stage_read plan.entry.stages.now index))) out.old }
+    ensures upper_bound { length (text_of (stage_records plan.entry.frame.now.resources row kind stage (stage_read plan.entry.stages.now index))) ≤ 11730 }
 {
     if 128 <= index {
         return;
@@ -42,7 +43,7 @@ fn put_stage(
                 fourth: 0,
             };
             let demands = &plan.stages[from..middle];
-            put_entries(like, demands, u32::from(plan.frame.resources), out);
+            put_entries(like, demands, plan.frame.resources as u32, out);
         }
         Some(row) => {
             let like = Record {
@@ -58,7 +59,8 @@ fn put_stage(
     }
 }
 
-// The same of each stage of a type, by where its first stands.
+// The same of each stage of a type, by where its first stands. They have far fewer bytes than is said here and below: 46 a record, 255 records a stage
+// and as many stages as 32 bits count.
 #[tactic(auto, using(write_lines::proofs::Sinks::nothing_put))]
 fn put_type(
     plan: LentPlan<'_>,
@@ -69,7 +71,8 @@ fn put_type(
     out: &mut Sink<'_>,
 )
     requires { (length plan.stages.now ≡ 8192) × (first ≤ 1099511627776) }
-    ensures { out.new ≡ with_text (text_of (records_from plan.entry.stages.now plan.entry.frame.now.resources row kind first count)) out.old }
+    ensures value { out.new ≡ with_text (text_of (records_from plan.entry.stages.now plan.entry.frame.now.resources row kind first count)) out.old }
+    ensures upper_bound { length (text_of (records_from plan.entry.stages.now plan.entry.frame.now.resources row kind first count)) ≤ 50379966370350 }
 {
     for k in 0..count {
         let stage = k + 1;
@@ -81,7 +84,8 @@ fn put_type(
 // The same of each stage of a plan.
 #[tactic(auto, using(write_lines::proofs::Sinks::nothing_put))]
 fn put_stages(plan: LentPlan<'_>, row: Option<u32>, out: &mut Sink<'_>)
-    ensures { out.new ≡ with_text (text_of (plan_stages (plan_of plan.entry) row)) out.old }
+    ensures value { out.new ≡ with_text (text_of (plan_stages (plan_of plan.entry) row)) out.old }
+    ensures upper_bound { length (text_of (plan_stages (plan_of plan.entry) row)) ≤ 12846891424439250 }
 {
     if plan.stages.len() != 8192 {
         return;
@@ -98,7 +102,8 @@ fn put_stages(plan: LentPlan<'_>, row: Option<u32>, out: &mut Sink<'_>)
 // The S records of a plan.
 #[tactic(auto, using(crate::proofs::StageRecords::demands_told))]
 pub fn put_demands(plan: LentPlan<'_>, out: &mut Sink<'_>)
-    ensures { out.new ≡ with_text (text_of (demand_records (plan_of plan.entry))) out.old }
+    ensures value { out.new ≡ with_text (text_of (demand_records (plan_of plan.entry))) out.old }
+    ensures upper_bound { length (text_of (demand_records (plan_of plan.entry))) ≤ 12846891424439250 }
 {
     put_stages(plan, None, out);
 }
@@ -106,7 +111,8 @@ pub fn put_demands(plan: LentPlan<'_>, out: &mut Sink<'_>)
 // The A records of a plan.
 #[tactic(auto, using(write_lines::proofs::Sinks::nothing_put))]
 pub fn put_weights(plan: LentPlan<'_>, out: &mut Sink<'_>)
-    ensures { out.new ≡ with_text (text_of (weight_records (plan_of plan.entry))) out.old }
+    ensures value { out.new ≡ with_text (text_of (weight_records (plan_of plan.entry))) out.old }
+    ensures upper_bound { length (text_of (weight_records (plan_of plan.entry))) ≤ 3275957313232008750 }
 {
     for w in 0..plan.frame.rows {
         let row = u32::from(w) + 1;

@@ -1,5 +1,5 @@
 -- Each turn puts the record of one row more.
-use Rattle.std.proofs.Common.{ℕ, ◌≡◌, List, [], ◌∷◌}
+use Rattle.std.proofs.Common.{ℕ, ◌*◌, ◌≡◌, ◌≤◌, List, [], ◌∷◌, length}
 use Rattle.model.specs.Numbers.{at}
 use Rattle.plan_text.specs.Meaning.{B}
 use Rattle.plan_text.specs.declared.Record.{Record}
@@ -11,4 +11,8 @@ abbrev pub own : List ℕ → ℕ → List Record
 own bounds w = B w (at bounds w) ∷ []
 
 abbrev pub invariant-loop-i : goal.invariant-loop-i
-invariant-loop-i l = l.out ≡ with_text (text_of (list_to l.i (own l.bounds))) l.fn.out
+invariant-loop-i l =
+    record {
+      put : l.out ≡ with_text (text_of (list_to l.i (own l.bounds))) l.fn.out;
+      short : length (text_of (list_to l.i (own l.bounds))) ≤ 46 * l.i;
+    }

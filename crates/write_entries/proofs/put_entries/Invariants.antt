@@ -1,5 +1,5 @@
 -- Each turn puts the record of one entry more.
-use Rattle.std.proofs.Common.{ℕ, ◌≡◌, List}
+use Rattle.std.proofs.Common.{ℕ, ◌*◌, ◌≡◌, ◌≤◌, List, length}
 use Rattle.model.specs.Numbers.{at}
 use Rattle.plan_text.specs.declared.Record.{Record}
 use Rattle.canonical_text.specs.CanonicalText.{list_to, valued, text_of}
@@ -12,4 +12,8 @@ abbrev pub own : Record → List ℕ → ℕ → List Record
 own like xs i = valued (at xs i) (entry_of like i)
 
 abbrev pub invariant-loop-i : goal.invariant-loop-i
-invariant-loop-i l = l.out ≡ with_text (text_of (list_to l.i (own l.fn.like l.xs))) l.fn.out
+invariant-loop-i l =
+    record {
+      put : l.out ≡ with_text (text_of (list_to l.i (own l.fn.like l.xs))) l.fn.out;
+      short : length (text_of (list_to l.i (own l.fn.like l.xs))) ≤ 46 * l.i;
+    }

@@ -12,7 +12,7 @@ returns c =
     let a = c.args in
     let s = a.out.now in
     let own = section_records (plan_over a.plan.frame.now a.plan.stages.now) in
-    rw (c.put_entries.ensures, c.put_weights.ensures, c.put_bounds.ensures, c.put_demands.ensures, c.put_lists.ensures, c.records_of.ensures)
+    rw (c.put_entries.ensures.value, c.put_weights.ensures.value, c.put_bounds.ensures.value, c.put_demands.ensures.value, c.put_lists.ensures, c.records_of.ensures)
     (rw (c.from-resources.ensures, c.from-rows.ensures)
     (ap (λ t. with_text (text_of (own 7)) (with_text (text_of (own 6)) (with_text (text_of (own 5)) t))) (records_more own 3 s)
     ∙ ap (λ t. with_text (text_of (own 7)) (with_text (text_of (own 6)) t)) (records_more own 4 s)

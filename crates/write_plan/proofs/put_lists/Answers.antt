@@ -17,6 +17,6 @@ returns c =
     c.counts_of.ensures
     ∙ (λ i. C (c.from-resources.ensures i) (c.from-types.ensures i) (c.from-rows.ensures i)) in
     let counts : c.put_record.new.out ≡ with_text (text_of (own 1)) s =
-    c.put_record.ensures ∙ ap (λ r. with_text (record_text r) s) counted ∙ ap (λ bs. with_text bs s) (one_record (C f.resources f.types f.rows)) in
-    rw (c.put_entries-2.ensures, c.put_entries.ensures, counts, c.records_of.ensures, c.records_of-2.ensures, c.from-resources.ensures, c.from-types.ensures)
+    c.put_record.ensures.value ∙ ap (λ r. with_text (record_text r) s) counted ∙ ap (λ bs. with_text bs s) (one_record (C f.resources f.types f.rows)) in
+    rw (c.put_entries-2.ensures.value, c.put_entries.ensures.value, counts, c.records_of.ensures, c.records_of-2.ensures, c.from-resources.ensures, c.from-types.ensures)
     (ap (with_text (text_of (own 3))) (records_more own 1 s) ∙ records_more own 2 s)

@@ -1,5 +1,5 @@
 -- Each turn puts the records of one stage more.
-use Rattle.std.proofs.Common.{ℕ, ◌≡◌, ◌+◌, ◌-◌, List, Option}
+use Rattle.std.proofs.Common.{ℕ, ◌≡◌, ◌≤◌, ◌+◌, ◌-◌, ◌*◌, List, Option, length}
 use Rattle.plan_text.specs.declared.Record.{Record}
 use Rattle.canonical_text.specs.CanonicalText.{list_to, text_of}
 use Rattle.write_lines.specs.Sink.{with_text}
@@ -11,4 +11,5 @@ own stages resources row kind first k = stage_records resources row kind k (stag
 
 abbrev pub invariant-loop-k : goal.invariant-loop-k
 invariant-loop-k l =
-    l.out ≡ with_text (text_of (list_to l.k (own l.fn.plan.stages.now l.fn.plan.frame.now.resources l.fn.row l.kind l.first))) l.fn.out
+    let f = own l.fn.plan.stages.now l.fn.plan.frame.now.resources l.fn.row l.kind l.first in
+    record { put : l.out ≡ with_text (text_of (list_to l.k f)) l.fn.out; short : length (text_of (list_to l.k f)) ≤ 11730 * l.k }
