@@ -4,7 +4,7 @@ use native.Mathlib.Numerals.{unary_clauses}
 use native.Mathlib.Omega.{arith}
 use mathlib.Core.List.{List, [], ◌∷◌, ◌++◌}
 use mathlib.Core.Path.{◌≡◌, refl, sym, ap, ◌∙◌}
-use lib.ListN.{length, take, length-append}
+use lib.ListN.{length, take, drop, length-append}
 use lib.Seq.{take_all, take-nil}
 use Rattle.std.proofs.lemmas.List.{length-take}
 use Rattle.moves_text.specs.Buffer.{overlaid, overlaid_at}
@@ -80,6 +80,14 @@ module _ (text : List ℕ) (s t : Sink) (new : s.at ≡ 0) (put : t ≡ with_tex
         omega (arith, ap (λ (u : Sink). u.at) put, w.0),
         ap (λ (u : Sink). u.buffer.now) put ∙ w.1 ∙ ap (λ k. overlaid_at k text s.buffer.now) new,
       )
+
+-- of one over the rest of a buffer, from an offset on: the length is that of the text at every offset
+pub put_rest : (text : List ℕ) (at : ℕ) (whole : List ℕ) (s t : Sink) → s.at ≡ 0 → s.buffer.now ≡ drop (min at (length whole)) whole → t ≡ with_text text s
+    → length text ≤ 18446744073709551615 → (t.at ≡ length text) × (take (min at (length whole)) whole ++ t.buffer.now ≡ overlaid_at at text whole)
+put_rest text at whole s t new rest put counted =
+    let w = new_whole text s t new put counted in
+    let first = take (min at (length whole)) whole in
+    (w.0, ap (λ bs. first ++ bs) (w.1 ∙ ap (λ bs. overlaid text bs) rest) ∙ overlaid_within at text whole)
 
 -- the buffer stays the one that was lent
 pub same_lent : (text : List ℕ) (s t : Sink) → t ≡ with_text text s → t.buffer.ghost_name ≡ s.buffer.ghost_name

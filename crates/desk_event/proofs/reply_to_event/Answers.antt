@@ -6,7 +6,6 @@ use Rattle.plan_bytes.specs.Over.{plan_of}
 use Rattle.moves_text.specs.OutputLines.{event_line}
 use Rattle.desk_text.specs.Desk.{desk_with, event_out}
 use Rattle.write_lines.specs.Sink.{with_text}
-use Rattle.write_lines.proofs.EventLines.{event_line_bounded}
 use Rattle.desk_event.proofs.reply_to_event.Goals as goal
 
 pub tell_event-requires : goal.tell_event-requires
@@ -24,10 +23,9 @@ returns c =
     let after = ap (λ (o : Outcome). o.table.list) o.ensures in
     let line : event_line a.desk.ordinal c.answer_number-number.result c.answer_place-place.result o.result.table.list.count ≡ event_out (plan_of a.plan) a.desk a.event =
     λ i. event_line a.desk.ordinal (number i) (place i) (after i).count in
-    let few = event_line_bounded a.desk.ordinal c.answer_number-number.result c.answer_place-place.result o.result.table.list.count (omega arith) (omega arith) (omega arith) (omega arith) in
     record {
       after = c.next_desk.ensures ∙ ap (λ l. desk_with l a.desk.ordinal) after;
-      answered = c.put_event_line.ensures ∙ ap (λ bs. with_text bs a.out.now) line;
+      answered = c.put_event_line.ensures.value ∙ ap (λ bs. with_text bs a.out.now) line;
       told = c.tell_event.ensures.told;
-      short = (subst (λ (bs : List ℕ). length bs ≤ 84) line few, c.tell_event.ensures.short);
+      short = (subst (λ (bs : List ℕ). length bs ≤ 84) line c.put_event_line.ensures.upper_bound, c.tell_event.ensures.short);
     }

@@ -7,7 +7,6 @@ use Rattle.events.specs.declared.JobList.{JobList}
 use Rattle.events.specs.declared.Event.{Event}
 use Rattle.plan_bytes.specs.Over.{plan_of}
 use Rattle.told_text.specs.EventMessage.{excess_after, event_place, told_line, event_message}
-use Rattle.told_text.proofs.Short.{event_place_short, told_line_short}
 use Rattle.write_lines.specs.Sink.{with_text}
 use Rattle.write_lines.proofs.Sinks.{nothing_put}
 use Rattle.desk_event.proofs.tell_event.Goals as goal
@@ -37,8 +36,7 @@ returns c =
     let a = c.args in
     let excess = c.excess_after-excess.result in
     let told = refused_told (plan_of a.plan) a.desk.list a.desk.ordinal a.event a.number a.place c.requires excess c.if-number-eq0.false c.excess_after-excess.ensures in
-    let place = event_place_short a.number a.place excess (omega arith) (omega arith) in
     record {
-      told = c.put_event_message.ensures ∙ ap (λ bs. with_text bs a.words.now) told;
-      short = subst (λ (bs : List ℕ). length bs ≤ 192) told (told_line_short a.desk.ordinal a.number _ (omega arith) (omega (arith, place)));
+      told = c.put_event_message.ensures.value ∙ ap (λ bs. with_text bs a.words.now) told;
+      short = subst (λ (bs : List ℕ). length bs ≤ 192) told c.put_event_message.ensures.upper_bound;
     }

@@ -31,7 +31,7 @@ loop-line-preserved-in-Malformed c =
     let l = c.loop-line in
     answered (plan_of a.plan) a.events.now a.out.now l.table.list l.ordinal l.line-iterator l.out l.invariant c.in-Some.line c.next.new.self
     c.in-Some.ensures.steps c.event_of.result c.event_of.ensures
-    Malformed none c.in-Malformed.is (λ ls. refl) l.table.list refl _ refl _ c.put_event_line.ensures
+    Malformed none c.in-Malformed.is (λ ls. refl) l.table.list refl _ refl _ c.put_event_line.ensures.value
 
 pub loop-line-preserved : goal.loop-line-preserved
 loop-line-preserved c =
@@ -45,7 +45,7 @@ loop-line-preserved c =
     answered (plan_of a.plan) a.events.now a.out.now l.table.list l.ordinal l.line-iterator l.out l.invariant c.in-Some.line c.next.new.self
     c.in-Some.ensures.steps c.event_of.result c.event_of.ensures
     (Given event) (some event) c.in-Given.is (λ ls. refl) c.handle-outcome.result.table.list after _
-    (λ i. event_line l.ordinal (number i) (place i) (after i).count) _ c.put_event_line-in-Given.ensures
+    (λ i. event_line l.ordinal (number i) (place i) (after i).count) _ c.put_event_line-in-Given.ensures.value
 
 pub returns : goal.returns
 returns c =
