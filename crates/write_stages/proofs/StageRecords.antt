@@ -22,7 +22,7 @@ use Rattle.plan_bytes.proofs.Nothing.{no_demand, no_weight}
 use Rattle.plan_bytes.proofs.Over.{over_whole, over_none}
 use Rattle.plan_bytes.proofs.StageBytes.{stage_beyond}
 use Rattle.plan_text.specs.Meaning.{S, A}
-use Rattle.canonical_text.specs.CanonicalText.{list_to, valued, entry_records, demand_records, type_weights}
+use Rattle.canonical_text.specs.CanonicalText.{list_to, valued, demand_records, type_weights}
 use Rattle.write_stages.specs.StageRecords.{stage_read, stage_records, records_from, type_records, plan_stages}
 
 list_same : {A : Type 0} (n : ℕ) (f g : ℕ → List A) → ((i : ℕ) → InRange i n → f i ≡ g i) → list_to n f ≡ list_to n g

@@ -1,5 +1,5 @@
 -- The outcome is that of the table that was lent: its number and place are put, and told of if it is a refusal.
-use Rattle.std.proofs.Common.{ℕ, ◌≡◌, ◌≤◌, List, ap, subst, ◌∙◌, arith, length}
+use Rattle.std.proofs.Common.{ℕ, ◌≡◌, ◌≤◌, List, ap, subst, ◌∙◌, length}
 use Rattle.events.specs.Events.{answer_numbers}
 use Rattle.admission.specs.declared.Outcome.{Outcome}
 use Rattle.plan_bytes.specs.Over.{plan_of}

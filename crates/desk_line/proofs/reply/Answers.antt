@@ -1,7 +1,7 @@
 -- By what the line means: nothing is put of a skipped one, and the two others have their functions.
-use Rattle.std.proofs.Common.{◌≡◌, sym, ap, ◌∙◌, arith}
+use Rattle.std.proofs.Common.{◌≡◌, sym, ◌∙◌, arith}
 use Rattle.moves_text.specs.declared.EventLine.TheVariants.{Malformed}
-use Rattle.desk_text.specs.HeldLine.{held_means, held_slip}
+use Rattle.desk_text.specs.HeldLine.{held_means}
 use Rattle.write_lines.proofs.Sinks.{nothing_put}
 use Rattle.desk_line.proofs.reply.Goals as goal
 

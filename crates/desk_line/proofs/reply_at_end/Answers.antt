@@ -1,5 +1,5 @@
 -- A line of answers and a line of words are short, so both are counted whole.
-use Rattle.std.proofs.Common.{refl, ap, arith}
+use Rattle.std.proofs.Common.{refl, arith}
 use Rattle.desk_text.specs.Desk.{out_at_end, told_at_end}
 use Rattle.write_lines.proofs.Sinks.{new_whole, same_lent}
 use Rattle.desk_line.proofs.reply_at_end.Goals as goal

@@ -1,5 +1,5 @@
 -- The record that a turn puts is that of the row.
-use Rattle.std.proofs.Common.{◌+◌, ◌*◌, ◌≤◌, ◌∙◌, sym, ap, arith, length, subst}
+use Rattle.std.proofs.Common.{◌+◌, ◌*◌, ◌≤◌, ◌∙◌, ap, arith, length, subst}
 use Rattle.model.specs.Numbers.{at}
 use Rattle.plan_text.specs.Meaning.{B}
 use Rattle.canonical_text.specs.CanonicalText.{record_text}

@@ -1,10 +1,7 @@
 -- What a stage demands and what it weighs are lent where they lie.
 use Rattle.std.proofs.Common.{arith, sym}
 use Rattle.model.specs.Plan.{no_stage}
-use Rattle.model.specs.declared.Stage.{Stage}
 use Rattle.plan_bytes.proofs.Laid.{stage_lent_lem}
-use Rattle.canonical_text.specs.CanonicalText.{text_of}
-use Rattle.write_lines.specs.Sink.{with_text}
 use Rattle.write_lines.proofs.Sinks.{nothing_put}
 use Rattle.write_stages.specs.StageRecords.{stage_read, stage_records}
 use Rattle.write_stages.proofs.StageRecords.{records_beyond}
