@@ -43,6 +43,7 @@ fn put_stage(
                 fourth: 0,
             };
             let demands = &plan.stages[from..middle];
+            // a cast, since by `From` the check does not know that there are at most 255
             put_entries(like, demands, plan.frame.resources as u32, out);
         }
         Some(row) => {
