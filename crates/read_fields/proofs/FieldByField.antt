@@ -37,7 +37,7 @@ module _ (n : ℕ) (xs f : List ℕ) (fs : List (List ℕ)) where
   abbrev too_many : Fields
   too_many = record { count = 5; numbers = xs }
 
-  field_bad : value_read f ≡ None → fields_given (fields_on n xs (f ∷ fs)) ≡ Err too_many
+  pub field_bad : value_read f ≡ None → fields_given (fields_on n xs (f ∷ fs)) ≡ Err too_many
   field_bad e = rw (read_none f e) refl
 
   pub field_refused : (o : Option ℕ) → o ≡ value_read f → (e : Fields) → ◌≡◌ {A = Result ℕ Fields} (Err e) (ok_or o too_many)

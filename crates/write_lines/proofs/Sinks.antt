@@ -98,3 +98,7 @@ same_lent text s t put = ap (λ (u : Sink). u.buffer.ghost_name) put
 pub text_behind : (text : List ℕ) (s : Sink) → (s.at ≤ (with_text text s).at) × (length (with_text text s).buffer.now ≡ length s.buffer.now)
 unfolding with_text
 text_behind text s = (omega arith, overlaid_at_length s.at (take (18446744073709551615 - s.at) text) s.buffer.now)
+
+-- the same of a sink as it is then
+pub counted_on : (text : List ℕ) (s t : Sink) → t ≡ with_text text s → s.at ≤ t.at
+counted_on text s t put = omega (arith, ap (λ (u : Sink). u.at) put, (text_behind text s).0)

@@ -2,14 +2,11 @@
 use Rattle.std.proofs.Common.{arith}
 use Rattle.moves_text.specs.OutputLines.{plan_line}
 use Rattle.write_lines.proofs.Lengths.{plan_line_bounded}
-use Rattle.write_lines.proofs.Sinks.{put_at, same_lent}
+use Rattle.write_lines.proofs.Sinks.{put_at, same_lent, counted_on}
 use Rattle.write_lines.proofs.put_plan_line.Goals as goal
 
 pub overflow_sub-result : goal.overflow_sub-result
-overflow_sub-result c =
-    let a = c.args in
-    let put = put_at (plan_line a.number a.line) a.at _ _ c.offset_within-from.ensures c.put_plan_line.ensures (omega (arith, c.offset_within-from.ensures, plan_line_bounded a.number a.line (omega arith) (omega arith))) in
-    omega (arith, put.0)
+overflow_sub-result c = counted_on _ _ _ c.put_plan_line.ensures
 
 pub returns : goal.returns
 returns c =
